@@ -6,13 +6,12 @@ use crate::openings::both::are_both_accepted;
 use crate::openings::cases::{Asked, are_met};
 use crate::openings::headline::is_column_accepted;
 use crate::openings::requests::Batches;
-use crate::openings::stark::are_stark_columns_opened;
+use crate::openings::stark::is_stark_served;
 use crate::openings::unsolved::{commit_and_open, is_named};
-use crate::periodic::has_entries;
 use crate::scheme::{SMALL, Setting};
 use crate::schemes::{PlainScheme, Scheme, plain_scheme_of, scheme_of};
 use crate::tested::Tested;
-use crate::turns::{Turn, are_met_by_forks, are_met_in_turn};
+use crate::turns::{Turn, are_met_in_turn};
 use p3_fri_folding::PowPhase;
 use std::alloc::Global;
 use std::process::Abort;
@@ -20,20 +19,17 @@ use std::process::Abort;
 /// What is asked of a scheme.
 #[derive(Clone, Copy)]
 pub(crate) enum Question<'a> {
-    /// Whether what a new scheme of that setting commits to in turn is as it is wanted.
+    /// Whether what a new scheme of that setting or its forks commit to in turn is as it is wanted.
     InTurn(Setting, &'a [Turn<'a>]),
-    /// Whether that holds of what a scheme, its second fork and its first commit to.
-    ByForks(&'a [Turn<'a>; 3]),
     /// Whether openings are.
     Openings(&'a Batches, &'a [Asked]),
     /// Whether a column is accepted.
     IsColumnAccepted,
     /// Whether preprocessing beside a private column is.
     AreBothAccepted,
-    /// Whether the columns of a STARK are opened, beside random polynomials.
-    AreStarkColumnsOpened,
-    /// Whether a periodic column has a table.
-    HasPeriodicTable,
+    /// Whether a periodic column has a table, and the columns of a STARK are opened, beside random
+    /// polynomials.
+    IsStarkServed,
     /// Whether both schemes name this proof of work, which has no solution, where a column is to be
     /// opened, or none; and the hiding one's data counts as opened.
     IsWorkNamed(Option<PowPhase>),
@@ -43,12 +39,10 @@ pub(crate) enum Question<'a> {
 fn answer_of<P: Tested>(rt: &impl Abort, alloc: Global, question: Question<'_>) -> bool {
     match question {
         Question::InTurn(setting, turns) => are_met_in_turn::<P>(rt, alloc, setting, turns),
-        Question::ByForks(turns) => are_met_by_forks::<P>(rt, alloc, turns),
         Question::Openings(batches, openings) => are_met::<P>(rt, alloc, batches, openings),
         Question::IsColumnAccepted => is_column_accepted::<P>(rt, alloc),
         Question::AreBothAccepted => are_both_accepted::<P>(rt, alloc),
-        Question::AreStarkColumnsOpened => are_stark_columns_opened::<P>(rt, alloc),
-        Question::HasPeriodicTable => has_entries::<P>(rt, alloc),
+        Question::IsStarkServed => is_stark_served::<P>(rt, alloc),
         // no scheme alone answers that
         Question::IsWorkNamed(_) => false,
     }

@@ -2,13 +2,11 @@
 
 use crate::asked::{Question, ask};
 use crate::kind::Kind;
-use crate::masks::readings::{Masks, Wanted};
+use crate::masks::readings::Masks;
 use crate::matrices::Entries;
 use crate::scheme::{SMALL, Setting};
 use crate::turns::Turn;
 use p3_fri_masks::HidingFriProverError;
-use std::alloc::Global;
-use std::process::Abort;
 
 /// The calls that commit.
 static CALLS: [(Kind, &str); 5] = [
@@ -178,44 +176,35 @@ static CASES: [Case; 9] = [
 ];
 
 /// Of what is committed to nothing is read.
-const NONE_READ: Wanted = Wanted {
-    each: &[],
-    masks: Masks::Any,
-    recombined: None,
-};
-
-/// Whether the call answers so. A quotient has chunks.
-fn is_answered(rt: &impl Abort, alloc: Global, kind: Kind, case: &Case) -> bool {
-    let each = match kind {
-        Kind::Ldes => case.words,
-        Kind::Chunks => case.chunks,
-        _ => case.columns,
-    };
-    if kind == Kind::Chunks && each.is_empty() {
-        return true;
-    }
-    let setting = Setting {
-        num_random_codewords: case.num_random_codewords,
-        num_queries: case.num_queries,
-        ..SMALL
-    };
-    let turn = Turn {
-        kind,
-        each,
-        refusal: case.refusal,
-        domains: &[],
-        wanted: NONE_READ,
-    };
-    ask(rt, alloc, Question::InTurn(setting, &[turn]))
-}
-
 #[test]
 fn the_budget_is_met_or_refused(rt: HostRuntime) {
     for call in 0..CALLS.len() {
         let (kind, name) = CALLS[call];
         for index in 0..CASES.len() {
+            let case = &CASES[index];
+            let each = match kind {
+                Kind::Ldes => case.words,
+                Kind::Chunks => case.chunks,
+                _ => case.columns,
+            };
+            let turn = Turn {
+                kind,
+                each,
+                is_by_fork: false,
+                refusal: case.refusal,
+                wanted: &[],
+                masks: Masks::Any,
+            };
+            let setting = Setting {
+                num_random_codewords: case.num_random_codewords,
+                num_queries: case.num_queries,
+                ..SMALL
+            };
+            // a quotient has chunks
+            let is_asked = !matches!(kind, Kind::Chunks) || !each.is_empty();
+            let question = Question::InTurn(setting, &[turn]);
             assert!(rt;
-                is_answered(&rt, rt.alloc(), kind, &CASES[index]),
+                !is_asked || ask(&rt, rt.alloc(), question),
                 "{name}, case {index}"
             );
         }

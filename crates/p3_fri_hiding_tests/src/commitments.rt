@@ -1,11 +1,8 @@
 //! Whatever a scheme commits to.
 
-ghost use Rattle.std.specs.Prelude.{All};
-ghost use Rattle.p3_fri_two_adic.specs.Ldes.{HasLdeHeight};
-ghost use Rattle.p3_fri_hiding_tests.specs.Fits.{Fits};
-
 use crate::committable::{chunks, domains_of, words};
 use crate::kind::Kind;
+use crate::lists::two;
 use crate::matrices::{Entries, coset, evaluations};
 use crate::scheme::{Domain, Setting};
 use crate::tested::Tested;
@@ -15,15 +12,6 @@ use std::process::Abort;
 
 /// A commitment and its data, or why there is none.
 type Commitment<Data> = Result<([u8; 32], Data), HidingFriProverError>;
-
-/// What a scheme of that setting commits to.
-fn commits_law<P: Tested>(_scheme: &P, _setting: Setting)
-    requires { P.IsOf _setting _scheme.now }
-    ensures columns { (es : _) → All (λ e. Fits 2 e.0.log_size e.1) es
-        → (P.rules _scheme.now).CanCommit es }
-    ensures words { (ws : _) → All (HasLdeHeight 27 2) ws
-        → (P.stark_rules _scheme.now).CanCommitLdes ws }
-{}
 
 /// Commits so to the matrices of these entries, by a scheme of that setting: those of a trace, and
 /// those on whose domains random polynomials are, stand beside domains of twice as many points.
@@ -38,7 +26,6 @@ pub(crate) fn commit_to<P: Tested>(
     requires { P.IsOf setting scheme.old }
     ensures { P.Keeps scheme.old scheme.new }
 {
-    commits_law(&*scheme, setting);
     match kind {
         Kind::Private => {
             let private = evaluations(rt, alloc, each, 2);
@@ -53,9 +40,9 @@ pub(crate) fn commit_to<P: Tested>(
             scheme.commit_ldes(alloc, words)
         },
         Kind::Chunks => {
-            let chunks = chunks(rt, alloc, each);
-            let count = chunks.len();
-            match scheme.get_quotient_ldes(alloc, chunks, count) {
+            let (first, second) = chunks(rt, alloc, each);
+            let chunks = two(rt, alloc, first, second);
+            match scheme.get_quotient_ldes(alloc, chunks, 2) {
                 Ok(words) => match scheme.commit_ldes(alloc, words) {
                     Ok(committed) => Ok(committed),
                     Err(_) => panic!(rt; "the words are refused"),
@@ -77,7 +64,7 @@ pub(crate) fn commit_to<P: Tested>(
 
 /// Domains by their shifts and the logarithms of their sizes.
 pub(crate) fn cosets(rt: &impl Abort, alloc: Global, each: &[(u64, usize)]) -> Vec<Domain> {
-    let mut domains = Vec::with_capacity(alloc, each.len()).expect(rt, "memory");
+    let mut domains = Vec::new(alloc);
     for one in each {
         domains.push(coset(rt, one.0, one.1)).expect(rt, "memory");
     }

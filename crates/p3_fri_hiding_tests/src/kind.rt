@@ -1,7 +1,7 @@
 //! How matrices are committed to.
 
 /// How matrices, each beside a domain, are committed to by one call.
-#[derive(Clone, Copy, PartialEq)]
+#[derive(Clone, Copy)]
 pub(crate) enum Kind {
     Private,
     Preprocessed,

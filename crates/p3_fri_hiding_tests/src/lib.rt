@@ -24,8 +24,6 @@ mod openable;
 #[cfg(test)]
 mod openings;
 #[cfg(test)]
-mod periodic;
-#[cfg(test)]
 mod scheme;
 #[cfg(test)]
 mod schemes;

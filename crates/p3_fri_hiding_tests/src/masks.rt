@@ -8,7 +8,8 @@ use crate::kind::Kind;
 use crate::matrices::{E, Entries, PI};
 use crate::scheme::SMALL;
 use crate::turns::Turn;
-use readings::{Masked, Masks, Wanted};
+use p3_field::{BabyBear, Field};
+use readings::{Masked, Masks};
 
 /// 16 rows and 32 rows.
 const TRACES: [Entries; 2] = [
@@ -26,6 +27,7 @@ const TRACES: [Entries; 2] = [
 
 /// Both, with a mask after each row and four columns of masks beside.
 const MASKED_PI: Masked = Masked {
+    domain: (1, 5),
     numbers: &PI,
     width: 2,
     has_rows_between: true,
@@ -35,6 +37,7 @@ const MASKED_PI: Masked = Masked {
 };
 
 const MASKED_E: Masked = Masked {
+    domain: (5, 6),
     numbers: &E,
     width: 1,
     has_rows_between: true,
@@ -47,13 +50,10 @@ const MASKED_E: Masked = Masked {
 const WORDS: Turn<'static> = Turn {
     kind: Kind::Private,
     each: &TRACES,
+    is_by_fork: false,
     refusal: None,
-    domains: &[(1, 5), (5, 6)],
-    wanted: Wanted {
-        each: &[MASKED_PI, MASKED_E],
-        masks: Masks::Words,
-        recombined: None,
-    },
+    wanted: &[MASKED_PI, MASKED_E],
+    masks: Masks::Words,
 };
 
 const TWICE: [Turn<'static>; 2] = [WORDS, WORDS];
@@ -86,25 +86,23 @@ const AFTER_A_REFUSAL: [Turn<'static>; 3] = [
 /// All columns of preprocessed matrices are shown, with zeros between their rows.
 const PREPROCESSED: [Turn<'static>; 1] = [Turn {
     kind: Kind::Preprocessed,
-    wanted: Wanted {
-        each: &[
-            Masked {
-                columns: 2,
-                ..MASKED_PI
-            },
-            Masked {
-                columns: 1,
-                ..MASKED_E
-            },
-        ],
-        masks: Masks::Zeros,
-        recombined: None,
-    },
+    wanted: &[
+        Masked {
+            columns: 2,
+            ..MASKED_PI
+        },
+        Masked {
+            columns: 1,
+            ..MASKED_E
+        },
+    ],
+    masks: Masks::Zeros,
     ..WORDS
 }];
 
 /// Random polynomials for domains of 32 and of 64 points: 8 columns each, of the next words.
 const RANDOM_COLUMNS: Masked = Masked {
+    domain: (1, 5),
     numbers: &[],
     width: 0,
     has_rows_between: false,
@@ -115,28 +113,26 @@ const RANDOM_COLUMNS: Masked = Masked {
 
 const RANDOM: [Turn<'static>; 1] = [Turn {
     kind: Kind::Random,
-    wanted: Wanted {
-        each: &[
-            RANDOM_COLUMNS,
-            Masked {
-                height: 64,
-                ..RANDOM_COLUMNS
-            },
-        ],
-        masks: Masks::Words,
-        recombined: None,
-    },
+    wanted: &[
+        RANDOM_COLUMNS,
+        Masked {
+            domain: (5, 6),
+            height: 64,
+            ..RANDOM_COLUMNS
+        },
+    ],
     ..WORDS
 }];
 
 /// What is committed to by forks.
 const FORKED: Turn<'static> = Turn {
+    is_by_fork: true,
     each: &[Entries {
         shift: 5,
         width: 1,
         numbers: &E,
     }],
-    domains: &[(5, 6)],
+    masks: Masks::Any,
     ..WORDS
 };
 
@@ -147,80 +143,96 @@ const FIRST_ROWS: Masked = Masked {
     ..MASKED_E
 };
 
-/// Its first two rows with masks, by the generator of a scheme that was forked twice, by that of
-/// its second fork and by that of its first.
+/// Its first two rows with masks, by the generator of a scheme's first fork, by that of its second
+/// and by that of the scheme, which was forked twice then.
 const FORKS: [Turn<'static>; 3] = [
     Turn {
-        wanted: Wanted {
-            each: &[Masked {
-                numbers: &[
-                    2,
-                    143_829_583,
-                    565_231_705,
-                    1_818_524_112,
-                    1_722_409_120,
-                    1_210_015_426,
-                    1_307_057_766,
-                    36_701_473,
-                    1_056_710_320,
-                    1_485_158_692,
-                ],
-                ..FIRST_ROWS
-            }],
-            masks: Masks::Any,
-            recombined: None,
-        },
+        wanted: &[Masked {
+            numbers: &[
+                2,
+                1_235_608_696,
+                834_574_559,
+                1_879_293_789,
+                401_717_771,
+                154_003_393,
+                1_503_105_165,
+                111_776_947,
+                273_203_997,
+                606_673_375,
+            ],
+            ..FIRST_ROWS
+        }],
         ..FORKED
     },
     Turn {
-        wanted: Wanted {
-            each: &[Masked {
-                numbers: &[
-                    2,
-                    320_492_493,
-                    27_080_796,
-                    309_016_361,
-                    700_114_757,
-                    1_300_739_413,
-                    1_254_157_230,
-                    281_660_884,
-                    1_732_025_374,
-                    274_647_590,
-                ],
-                ..FIRST_ROWS
-            }],
-            masks: Masks::Any,
-            recombined: None,
-        },
+        wanted: &[Masked {
+            numbers: &[
+                2,
+                320_492_493,
+                27_080_796,
+                309_016_361,
+                700_114_757,
+                1_300_739_413,
+                1_254_157_230,
+                281_660_884,
+                1_732_025_374,
+                274_647_590,
+            ],
+            ..FIRST_ROWS
+        }],
         ..FORKED
     },
     Turn {
-        wanted: Wanted {
-            each: &[Masked {
-                numbers: &[
-                    2,
-                    1_235_608_696,
-                    834_574_559,
-                    1_879_293_789,
-                    401_717_771,
-                    154_003_393,
-                    1_503_105_165,
-                    111_776_947,
-                    273_203_997,
-                    606_673_375,
-                ],
-                ..FIRST_ROWS
-            }],
-            masks: Masks::Any,
-            recombined: None,
-        },
+        is_by_fork: false,
+        wanted: &[Masked {
+            numbers: &[
+                2,
+                143_829_583,
+                565_231_705,
+                1_818_524_112,
+                1_722_409_120,
+                1_210_015_426,
+                1_307_057_766,
+                36_701_473,
+                1_056_710_320,
+                1_485_158_692,
+            ],
+            ..FIRST_ROWS
+        }],
         ..FORKED
     },
 ];
 
-/// A row of a masked chunk at 5, of which the last four columns only hide the others.
+/// The values at 5 of all columns of two masked chunks: the last four only hide the others.
+const FIRST_AT_FIVE: [u64; 6] = [
+    32_742_644,
+    1_833_442_057,
+    468_616_025,
+    1_712_745_302,
+    1_029_365_084,
+    771_241_103,
+];
+
+const SECOND_AT_FIVE: [u64; 6] = [
+    536_041_728,
+    1_312_185_036,
+    1_867_161_949,
+    1_045_928_189,
+    1_688_948_755,
+    1_768_662_780,
+];
+
+/// What these are multiplied by where they are recombined, and the recombined quotient at 5 of each
+/// column of the chunks as they were handed in.
+static FACTORS_AT_FIVE: [u64; 2] = [198_688_671, 1_814_577_251];
+
+static QUOTIENT_AT_FIVE: [u64; 2] = [699_564_735, 1_070_878_612];
+
+static CHUNKS_AT_FIVE: [[u64; 6]; 2] = [FIRST_AT_FIVE, SECOND_AT_FIVE];
+
 const CHUNK_AT_FIVE: Masked = Masked {
-    numbers: &[],
+    domain: (5, 0),
+    numbers: &FIRST_AT_FIVE,
     width: 6,
     has_rows_between: false,
     height: 1,
@@ -228,9 +240,7 @@ const CHUNK_AT_FIVE: Masked = Masked {
     shown: 2,
 };
 
-/// Two chunks of 16 rows, on the halves of the coset of 31 of 32 points: the values at 5 of all
-/// columns of the masked chunks, of which the last four only hide the others, and the recombined
-/// quotient at 5 of each column of the chunks as they were handed in.
+/// Two chunks of 16 rows, on the halves of the coset of 31 of 32 points, read at 5.
 const CHUNKS: [Turn<'static>; 1] = [Turn {
     kind: Kind::Chunks,
     each: &[
@@ -245,35 +255,14 @@ const CHUNKS: [Turn<'static>; 1] = [Turn {
             numbers: &E,
         },
     ],
-    domains: &[(5, 0), (5, 0)],
-    wanted: Wanted {
-        each: &[
-            Masked {
-                numbers: &[
-                    32_742_644,
-                    1_833_442_057,
-                    468_616_025,
-                    1_712_745_302,
-                    1_029_365_084,
-                    771_241_103,
-                ],
-                ..CHUNK_AT_FIVE
-            },
-            Masked {
-                numbers: &[
-                    536_041_728,
-                    1_312_185_036,
-                    1_867_161_949,
-                    1_045_928_189,
-                    1_688_948_755,
-                    1_768_662_780,
-                ],
-                ..CHUNK_AT_FIVE
-            },
-        ],
-        masks: Masks::Any,
-        recombined: Some([699_564_735, 1_070_878_612]),
-    },
+    wanted: &[
+        CHUNK_AT_FIVE,
+        Masked {
+            numbers: &SECOND_AT_FIVE,
+            ..CHUNK_AT_FIVE
+        },
+    ],
+    masks: Masks::Any,
     ..WORDS
 }];
 
@@ -282,7 +271,7 @@ static QUESTIONS: [Question<'static>; 6] = [
     Question::InTurn(SMALL, &TWICE),
     Question::InTurn(SMALL, &AFTER_A_REFUSAL),
     Question::InTurn(SMALL, &PREPROCESSED),
-    Question::ByForks(&FORKS),
+    Question::InTurn(SMALL, &FORKS),
     Question::InTurn(SMALL, &CHUNKS),
     Question::InTurn(SMALL, &RANDOM),
 ];
@@ -290,4 +279,13 @@ static QUESTIONS: [Question<'static>; 6] = [
 #[test]
 fn committed_matrices_are_read(rt: HostRuntime) {
     hold(&rt, rt.alloc(), &QUESTIONS);
+    // so are chunks, and their columns that are shown recombine to the quotient
+    for column in 0..2 {
+        let of_first = BabyBear::from_u64(CHUNKS_AT_FIVE[0][column]);
+        let of_second = BabyBear::from_u64(CHUNKS_AT_FIVE[1][column]);
+        let recombined = BabyBear::from_u64(FACTORS_AT_FIVE[0]) * of_first
+            + BabyBear::from_u64(FACTORS_AT_FIVE[1]) * of_second;
+        let wanted = BabyBear::from_u64(QUOTIENT_AT_FIVE[column]);
+        assert!(rt; recombined == wanted, "not the quotient");
+    }
 }

@@ -3,7 +3,7 @@
 ghost use Rattle.std.specs.Prelude.{◌≡◌, All};
 ghost use Rattle.p3_fri_hiding_tests.specs.Fits.{Fits};
 
-use crate::scheme::{Domain, Evaluations};
+use crate::scheme::{Domain, Evaluation};
 use p3_field::{BabyBear, BabyBear4, ExtensionField, Field, TwoAdicMultiplicativeCoset};
 use p3_matrix::RowMajorMatrix;
 use std::alloc::Global;
@@ -45,17 +45,6 @@ pub(crate) static E_COLUMN: [u64; 32] = E;
 
 pub(crate) static LATE_E_COLUMN: [u64; 16] = LATE_E;
 
-/// Elements that are these numbers.
-pub(crate) fn elements(rt: &impl Abort, alloc: Global, numbers: &[u64]) -> Vec<BabyBear> {
-    let mut elements = Vec::with_capacity(alloc, numbers.len()).expect(rt, "memory");
-    for number in numbers {
-        elements
-            .push(BabyBear::from_u64(*number))
-            .expect(rt, "memory");
-    }
-    elements
-}
-
 /// The coset of this shift and of `2^log_size` points.
 pub(crate) fn coset(rt: &impl Abort, shift: u64, log_size: usize) -> Domain
     ensures { result.log_size ≡ log_size }
@@ -69,10 +58,15 @@ pub(crate) fn evaluation(
     alloc: Global,
     entries: &Entries,
     factor: usize,
-) -> (Domain, RowMajorMatrix<BabyBear>)
+) -> Evaluation
     ensures { Fits factor result.0.log_size result.1 }
 {
-    let values = elements(rt, alloc, entries.numbers);
+    let mut values = Vec::new(alloc);
+    for number in entries.numbers {
+        values
+            .push(BabyBear::from_u64(*number))
+            .expect(rt, "memory");
+    }
     assert!(rt;
         entries.width != 0 && values.len() % entries.width == 0,
         "the numbers aren't whole rows"
@@ -97,7 +91,7 @@ pub(crate) fn evaluations(
     alloc: Global,
     each: &[Entries],
     factor: usize,
-) -> Evaluations
+) -> Vec<Evaluation>
     ensures { All (λ e. Fits factor e.0.log_size e.1) result.items }
 {
     let mut all = Vec::new(alloc);

@@ -13,9 +13,10 @@ use p3_matrix::RowMajorMatrix;
 use p3_mmcs::Mmcs;
 use p3_pcs::OpeningRequest;
 
-/// Whether each matrix is as high as a coset is large.
-fn have_cosets(matrices: &[RowMajorMatrix<BabyBear>]) -> bool
-    ensures { IsTrue result → All (HasCoset 27) matrices.now }
+/// Whether each matrix is as high as a coset is large, and has so many columns.
+fn are_fit(matrices: &[RowMajorMatrix<BabyBear>], width: usize) -> bool
+    ensures cosets { IsTrue result → All (HasCoset 27) matrices.now }
+    ensures wide { IsTrue result → All (λ m. width ≤ matrix_width m) matrices.now }
 {
     for matrix in matrices {
         let height = matrix.height();
@@ -23,60 +24,31 @@ fn have_cosets(matrices: &[RowMajorMatrix<BabyBear>]) -> bool
         let Some(coset) = TwoAdicMultiplicativeCoset::new(BabyBear::ONE, log_height) else {
             return false;
         };
-        if coset.size() != height {
+        if coset.size() != height || matrix.width() < width {
             return false;
         }
     }
     true
 }
 
-/// Whether each has so many columns.
-fn are_wide(matrices: &[RowMajorMatrix<BabyBear>], width: usize) -> bool
-    ensures { IsTrue result → All (λ m. width ≤ matrix_width m) matrices.now }
-{
-    for matrix in matrices {
-        if matrix.width() < width {
-            return false;
-        }
-    }
-    true
-}
-
-/// Whether the data is of so many random codewords and a blowup of 4.
+/// Whether the data is of so many random codewords and a blowup of 4, and its matrices have the
+/// columns that hide the others.
 fn is_held<M: Mmcs<BabyBear>>(
     mmcs: &M,
     held: &HidingFriPcsProverData<M::ProverData>,
     codewords: usize,
 ) -> bool
-    ensures { IsTrue result → IsHeld codewords held.now (M.committed held.now.inner) }
+    ensures held { IsTrue result → IsHeld codewords held.now (M.committed held.now.inner) }
+    ensures wide { IsTrue result → All (λ m. hidden_columns codewords held.now ≤ matrix_width m)
+        (M.committed held.now.inner) }
 {
-    if held.num_random_codewords() != codewords {
+    if held.num_random_codewords() != codewords || held.log_blowup() != 2 {
         return false;
     }
-    if held.log_blowup() != 2 {
-        return false;
-    }
-    have_cosets(committed_matrices(mmcs, held))
-}
-
-/// Whether the data is preprocessing; or no opening has used it, and its matrices are so wide.
-fn is_unused<T>(
-    held: &HidingFriPcsProverData<T>,
-    matrices: &[RowMajorMatrix<BabyBear>],
-    width: usize,
-    is_preprocessed: bool,
-) -> bool
-    ensures unopened { IsTrue result → is_preprocessed ≡ false → held.now.opened ≡ false }
-    ensures wide { IsTrue result → is_preprocessed ≡ false
-        → All (λ m. width ≤ matrix_width m) matrices.now }
-{
-    if is_preprocessed {
-        return true;
-    }
-    if held.is_opened() {
-        return false;
-    }
-    are_wide(matrices, width)
+    are_fit(
+        committed_matrices(mmcs, held),
+        hidden_columns(held, codewords),
+    )
 }
 
 /// Whether the request is for all matrices of such data, which is preprocessing or may be opened.
@@ -93,22 +65,13 @@ pub(crate) fn is_openable<M: Mmcs<BabyBear>>(
 {
     let held = &*request.prover_data;
     let matrices = committed_matrices(mmcs, held);
-    if !is_held(mmcs, held, codewords) {
+    if !is_held(mmcs, held, codewords) || held.is_preprocessing() != is_preprocessed {
         return false;
     }
-    if held.is_preprocessing() != is_preprocessed {
+    if held.is_opened() && !is_preprocessed {
         return false;
     }
-    if !is_unused(held, matrices, codewords, is_preprocessed) {
-        return false;
-    }
-    if matrices.len() == 0 {
-        return false;
-    }
-    if request.points.len() != matrices.len() {
-        return false;
-    }
-    true
+    matrices.len() != 0 && request.points.len() == matrices.len()
 }
 
 /// Whether that holds of each request, for private data.
@@ -147,8 +110,5 @@ pub(crate) fn is_readable<M: Mmcs<BabyBear>>(
     if !is_held(mmcs, held, codewords) || index >= matrices.len() {
         return false;
     }
-    if matrices[index].width() <= hidden_columns(held, codewords) {
-        return false;
-    }
-    true
+    matrices[index].width() > hidden_columns(held, codewords)
 }

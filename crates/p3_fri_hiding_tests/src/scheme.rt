@@ -20,7 +20,8 @@ pub(crate) type Rounds = Sha256Mmcs<BabyBear4>;
 
 pub(crate) type Domain = TwoAdicMultiplicativeCoset<BabyBear>;
 
-pub(crate) type Evaluations = Vec<(Domain, RowMajorMatrix<BabyBear>)>;
+/// A matrix beside a domain.
+pub(crate) type Evaluation = (Domain, RowMajorMatrix<BabyBear>);
 
 /// The random values, and the proof beside them.
 pub(crate) type Proof = (

@@ -4,9 +4,9 @@ ghost use Rattle.std.specs.Prelude.{◌≡◌};
 
 use crate::commitments::commit_to;
 use crate::kind::Kind;
-use crate::masks::readings::{Reading, Wanted, are_read};
+use crate::masks::readings::{Masked, Masks, is_masked};
 use crate::matrices::{Entries, coset};
-use crate::scheme::{SMALL, Setting, generator};
+use crate::scheme::{Setting, generator};
 use crate::tested::{DataState, Tested};
 use p3_fri_masks::HidingFriProverError;
 use rand_chacha::ChaCha20Rng;
@@ -18,17 +18,19 @@ use std::process::Abort;
 pub(crate) struct Turn<'a> {
     pub kind: Kind,
     pub each: &'a [Entries],
+    /// Whether a new fork of the scheme commits to them, and not the scheme.
+    pub is_by_fork: bool,
     /// Why that is refused, if it is.
     pub refusal: Option<HidingFriProverError>,
-    /// The shifts and log sizes of domains on which matrices are read, from the first on.
-    pub domains: &'a [(u64, usize)],
-    pub wanted: Wanted,
+    /// What is read of matrices, from the first on.
+    pub wanted: &'a [Masked],
+    pub masks: Masks,
 }
 
 /// Whether the data is new, of that call, and of a scheme of so many random codewords.
 fn is_new(state: DataState, kind: Kind, num_random_codewords: usize) -> bool {
     !state.is_opened
-        && state.is_preprocessing == (kind == Kind::Preprocessed)
+        && state.is_preprocessing == matches!(kind, Kind::Preprocessed)
         && state.num_random_codewords == num_random_codewords
         && state.log_blowup == 2
 }
@@ -49,27 +51,29 @@ fn is_met<P: Tested>(
     match commit_to(rt, &mut *scheme, alloc, setting, turn.kind, turn.each) {
         Ok(pair) => {
             let (_commitment, held) = pair;
-            let mut readings = Vec::new(alloc);
-            for index in 0..turn.domains.len() {
+            let mut are_masked = true;
+            for index in 0..turn.wanted.len() {
+                let masked = &turn.wanted[index];
+                let domain = coset(rt, masked.domain.0, masked.domain.1);
                 assert!(rt; scheme.can_read(setting, &held, index), "no such matrix");
-                let domain = coset(rt, turn.domains[index].0, turn.domains[index].1);
-                let shown = scheme.get_evaluations_on_domain(alloc, &held, index, domain);
-                let whole = scheme.get_evaluations_on_domain_no_random(alloc, &held, index, domain);
-                let reading = Reading {
-                    shown: shown.expect(rt, "no columns"),
-                    whole: whole.expect(rt, "no columns with those that hide them"),
-                };
-                readings.push(reading).expect(rt, "memory");
+                let shown = scheme
+                    .get_evaluations_on_domain(alloc, &held, index, domain)
+                    .expect(rt, "no columns");
+                let whole = scheme
+                    .get_evaluations_on_domain_no_random(alloc, &held, index, domain)
+                    .expect(rt, "no columns with those that hide them");
+                are_masked = is_masked(&shown, &whole, masked, turn.masks, words) && are_masked;
             }
             turn.refusal.is_none()
                 && is_new(P::state_of(&held), turn.kind, setting.num_random_codewords)
-                && are_read(&readings, &turn.wanted, words)
+                && are_masked
         }
         Err(refusal) => turn.refusal == Some(refusal),
     }
 }
 
-/// Whether that holds of each turn of a new scheme, by the words of its generator.
+/// Whether that holds of each turn of a new scheme or of its next fork, by the words of the
+/// scheme's generator.
 pub(crate) fn are_met_in_turn<P: Tested>(
     rt: &impl Abort,
     alloc: Global,
@@ -80,23 +84,13 @@ pub(crate) fn are_met_in_turn<P: Tested>(
     let mut scheme = P::of(setting);
     let mut are_met = true;
     for turn in turns {
-        are_met = is_met(rt, &mut scheme, alloc, setting, turn, &mut words) && are_met;
+        let is_met = if turn.is_by_fork {
+            let mut fork = scheme.forked().expect(rt, "memory");
+            is_met(rt, &mut fork, alloc, setting, turn, &mut words)
+        } else {
+            is_met(rt, &mut scheme, alloc, setting, turn, &mut words)
+        };
+        are_met = is_met && are_met;
     }
     are_met
-}
-
-/// Whether it holds of a scheme that was forked twice, and then of its second fork and its first.
-pub(crate) fn are_met_by_forks<P: Tested>(
-    rt: &impl Abort,
-    alloc: Global,
-    turns: &[Turn<'_>; 3],
-) -> bool {
-    let mut words = generator();
-    let setting = SMALL;
-    let mut scheme = P::of(setting);
-    let mut first = scheme.forked().expect(rt, "memory");
-    let mut second = scheme.forked().expect(rt, "memory");
-    is_met(rt, &mut scheme, alloc, setting, &turns[0], &mut words)
-        && is_met(rt, &mut second, alloc, setting, &turns[1], &mut words)
-        && is_met(rt, &mut first, alloc, setting, &turns[2], &mut words)
 }

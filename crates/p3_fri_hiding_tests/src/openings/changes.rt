@@ -7,7 +7,7 @@ use p3_mmcs::{CommitmentOpening, OpenedValues, PointOpening};
 use std::alloc::Global;
 
 /// A change of it.
-#[derive(Clone, Copy, PartialEq)]
+#[derive(Clone, Copy)]
 pub(crate) enum Change {
     Nothing,
     /// Of the private column's random values one is missing.
@@ -27,45 +27,38 @@ pub(crate) enum Change {
     LowDomain,
 }
 
-/// Changes the random values of a round.
-fn change_round(round: &mut Vec<Vec<Vec<BabyBear4>>>, change: Change) {
-    if change == Change::NoMatrices {
-        round.clear();
-    }
-    if let Some(points) = round.first_mut() {
-        if change == Change::NoPoints {
-            points.clear();
-        }
-        if let Some(values) = points.first_mut() {
-            match change {
-                Change::OneValueLess => {
-                    let _ = values.pop();
-                },
-                Change::OneValueMore => {
-                    let _pushed = values.push(BabyBear4::ZERO).is_ok();
-                },
-                _ => {},
-            }
-        }
-    }
-}
-
 /// Changes the random values: those of preprocessing where there is to be one more, else those of
 /// the private column.
 pub(crate) fn change_random(random: &mut OpenedValues<BabyBear4>, change: Change) {
     match change {
         Change::NoRandomValues => random.clear(),
         Change::OneRound => random.truncate(1),
-        Change::OneValueMore => {
-            if let Some(round) = random.first_mut() {
-                change_round(round, change);
+        _ => {},
+    }
+    let round = match change {
+        Change::OneValueMore => random.first_mut(),
+        _ => random.last_mut(),
+    };
+    if let Some(round) = round {
+        if matches!(change, Change::NoMatrices) {
+            round.clear();
+        }
+        if let Some(points) = round.first_mut() {
+            if matches!(change, Change::NoPoints) {
+                points.clear();
             }
-        },
-        _ => {
-            if let Some(round) = random.last_mut() {
-                change_round(round, change);
+            if let Some(values) = points.first_mut() {
+                match change {
+                    Change::OneValueLess => {
+                        let _ = values.pop();
+                    },
+                    Change::OneValueMore => {
+                        let _pushed = values.push(BabyBear4::ZERO).is_ok();
+                    },
+                    _ => {},
+                }
             }
-        },
+        }
     }
 }
 
@@ -76,7 +69,7 @@ pub(crate) fn change_claims(
     low: Domain,
     change: Change,
 ) {
-    if change == Change::OneRound {
+    if matches!(change, Change::OneRound) {
         claims.truncate(1);
     }
     if let Some(claim) = claims.last_mut() {

@@ -29,13 +29,12 @@ pub(crate) fn is_column_accepted<P: Tested>(rt: &impl Abort, alloc: Global) -> b
 }
 
 /// A column, preprocessing beside a private column, a quotient beside its trace and random
-/// polynomials, these polynomials beside the columns of a STARK, and a periodic column.
-static QUESTIONS: [Question<'static>; 5] = [
+/// polynomials, and a periodic column with these polynomials beside the columns of a STARK.
+static QUESTIONS: [Question<'static>; 4] = [
     Question::IsColumnAccepted,
     Question::AreBothAccepted,
     Question::Openings(&BATCHES, &[AT_ONE]),
-    Question::AreStarkColumnsOpened,
-    Question::HasPeriodicTable,
+    Question::IsStarkServed,
 ];
 
 #[test]

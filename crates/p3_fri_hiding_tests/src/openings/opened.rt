@@ -6,7 +6,7 @@ use crate::kind::Kind;
 use crate::matrices::{E, Entries, POINTS, SHORT_PI};
 use crate::openings::cases::{ACCEPTED, Asked};
 use crate::openings::requests::{Batch, Batches};
-use crate::openings::shapes::First;
+use crate::openings::shapes::ANY;
 use crate::scheme::{SMALL, Setting};
 use p3_fri_folding::FriProverError;
 use p3_fri_masks::HidingFriProverError;
@@ -46,7 +46,7 @@ const AT_TWO: Asked = Asked {
     points: &POINTS,
     values: &[[1, 2, 1]],
     random: &[[1, 2, 4]],
-    firsts: &[First::Any, First::Any],
+    firsts: &[ANY, ANY],
     ..ACCEPTED
 };
 

@@ -8,7 +8,7 @@ use crate::matrices::{Entries, LATE_E, POINT, SHORT_PI};
 use crate::openings::cases::{ACCEPTED, Asked, Call};
 use crate::openings::changes::Change;
 use crate::openings::requests::{Batch, Batches};
-use crate::openings::shapes::First;
+use crate::openings::shapes::{ANY, First};
 use crate::scheme::{SMALL, Setting};
 
 /// Preprocessing and a private column, of 16 rows each.
@@ -44,7 +44,7 @@ const UNCHANGED: Asked = Asked {
     is_opened: &[false, true],
     values: &[[1, 1, 1], [1, 1, 1]],
     random: &[[1, 1, 0], [1, 1, 4]],
-    firsts: &[First::Any, First::Any],
+    firsts: &[ANY, ANY],
     call: Call::VerifyWithPreprocessing(Some(0)),
     ..ACCEPTED
 };
@@ -231,7 +231,10 @@ const OF_ZEROS: Asked = Asked {
     is_opened: &[false],
     values: &[[1, 1, 1]],
     random: &[[1, 1, 0]],
-    firsts: &[First::Is(0)],
+    firsts: &[First {
+        factor: 1,
+        sum: Some(0),
+    }],
     call: Call::VerifyWithPreprocessing(Some(0)),
     ..ACCEPTED
 };

@@ -4,7 +4,7 @@ use crate::kind::Kind;
 use crate::matrices::{Entries, SHORT_E, SHORT_PI};
 use crate::openings::cases::{ACCEPTED, Asked, Call};
 use crate::openings::requests::{Batch, Batches};
-use crate::openings::shapes::First;
+use crate::openings::shapes::{ANY, First};
 use crate::scheme::SMALL;
 
 /// Two chunks of a quotient, each a column of 16 rows, on the halves of the coset of 31 of 32
@@ -22,10 +22,17 @@ pub(crate) const CHUNKS: [Entries; 2] = [
     },
 ];
 
-/// The values at 1 of the first chunk and of the second.
-pub(crate) const FIRST_CHUNK: First = First::Chunk(1_683_716_237);
+/// The values at 1 of the first chunk and of the second: they recombine to the quotient at 1 of the
+/// chunks as they were handed in.
+pub(crate) const FIRST_CHUNK: First = First {
+    factor: 1_683_716_237,
+    sum: None,
+};
 
-pub(crate) const SECOND_CHUNK: First = First::Chunk(329_549_685);
+pub(crate) const SECOND_CHUNK: First = First {
+    factor: 329_549_685,
+    sum: Some(1_664_801_475),
+};
 
 /// A trace of 16 rows.
 const TRACE: [Entries; 1] = [Entries {
@@ -64,8 +71,11 @@ pub(crate) const AT_ONE: Asked = Asked {
     values: &[[1, 1, 4], [1, 1, 1], [2, 1, 1]],
     random: &[[1, 1, 4], [1, 1, 4], [2, 1, 4]],
     firsts: &[
-        First::Any,
-        First::Is(SHORT_PI[0]),
+        ANY,
+        First {
+            factor: 1,
+            sum: Some(SHORT_PI[0]),
+        },
         FIRST_CHUNK,
         SECOND_CHUNK,
     ],

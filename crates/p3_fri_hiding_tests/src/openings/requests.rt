@@ -2,7 +2,6 @@
 
 ghost use Rattle.std.specs.Prelude.{◌<◌};
 
-use crate::commitments::{commit_to, cosets};
 use crate::kind::Kind;
 use crate::matrices::{Entries, element};
 use crate::scheme::{Domain, Setting};
@@ -38,69 +37,7 @@ pub(crate) struct Batches {
     pub is_preprocessed: bool,
 }
 
-/// What is known of commitments, and their data.
-#[derive(Drop)]
-pub(crate) struct Committed<Data> {
-    pub known: Vec<KnownCommitment<[u8; 32], Domain>>,
-    pub data: Vec<Data>,
-}
-
-/// Commits to each batch in turn, by a scheme of their setting.
-pub(crate) fn commit_each<P: Tested>(
-    rt: &impl Abort,
-    scheme: &mut P,
-    alloc: Global,
-    batches: &Batches,
-) -> Committed<P::ProverData>
-    requires { P.IsOf batches.now.setting scheme.old }
-    ensures { P.IsOf batches.now.setting scheme.new }
-{
-    let mut known = Vec::new(alloc);
-    let mut data = Vec::new(alloc);
-    for batch in batches.each {
-        match commit_to(
-            rt,
-            &mut *scheme,
-            alloc,
-            batches.setting,
-            batch.kind,
-            batch.each,
-        ) {
-            Ok(pair) => {
-                let (commitment, held) = pair;
-                let domains = cosets(rt, alloc, batch.domains);
-                let known_one = KnownCommitment {
-                    commitment,
-                    domains,
-                };
-                known.push(known_one).expect(rt, "memory");
-                data.push(held).expect(rt, "memory");
-            }
-            Err(_) => panic!(rt; "the commitment is refused"),
-        }
-    }
-    Committed { known, data }
-}
-
-/// For each of so many matrices a list of the points with these coefficients.
-fn points_for(
-    rt: &impl Abort,
-    alloc: Global,
-    count: usize,
-    coefficients: &[[u64; 4]],
-) -> Vec<Vec<BabyBear4>> {
-    let mut all = Vec::with_capacity(alloc, count).expect(rt, "memory");
-    for _index in 0..count {
-        let mut points = Vec::with_capacity(alloc, coefficients.len()).expect(rt, "memory");
-        for each in coefficients {
-            points.push(element(*each)).expect(rt, "memory");
-        }
-        all.push(points).expect(rt, "memory");
-    }
-    all
-}
-
-/// Requests for the data of batches, each matrix at these points.
+/// Requests for the data of batches, each matrix at the points with these coefficients.
 fn requests_of<'a, D>(
     rt: &impl Abort,
     alloc: Global,
@@ -108,14 +45,21 @@ fn requests_of<'a, D>(
     batches: &[Batch],
     coefficients: &[[u64; 4]],
 ) -> Vec<OpeningRequest<'a, D, BabyBear4>> {
-    let mut requests = Vec::with_capacity(alloc, data.len()).expect(rt, "memory");
-    for (held, batch) in data.iter_mut().zip(batches) {
-        requests
-            .push(OpeningRequest {
-                prover_data: held,
-                points: points_for(rt, alloc, batch.domains.len(), coefficients),
-            })
-            .expect(rt, "memory");
+    let mut requests = Vec::new(alloc);
+    for (prover_data, batch) in data.iter_mut().zip(batches) {
+        let mut points = Vec::new(alloc);
+        for _domain in batch.domains {
+            let mut of_matrix = Vec::new(alloc);
+            for each in coefficients {
+                of_matrix.push(element(*each)).expect(rt, "memory");
+            }
+            points.push(of_matrix).expect(rt, "memory");
+        }
+        let request = OpeningRequest {
+            prover_data,
+            points,
+        };
+        requests.push(request).expect(rt, "memory");
     }
     requests
 }
@@ -126,14 +70,14 @@ pub(crate) fn open_each<P: Tested>(
     scheme: &P,
     alloc: Global,
     batches: &Batches,
-    committed: &mut Committed<P::ProverData>,
+    known: &[KnownCommitment<[u8; 32], Domain>],
+    data: &mut [P::ProverData],
     coefficients: &[[u64; 4]],
     challenger: &mut Sha256Challenger,
 ) -> Result<Opening<P>, HidingFriProverError>
     requires of_setting { P.IsOf batches.now.setting scheme.now }
     requires queries { 0 < batches.now.setting.num_queries }
 {
-    let data = committed.data.as_mut_slice();
     let mut requests = requests_of(rt, alloc, data, batches.each, coefficients);
     assert!(rt;
         scheme.can_open(batches.setting, &requests, batches.is_preprocessed),
@@ -144,7 +88,7 @@ pub(crate) fn open_each<P: Tested>(
     } else {
         scheme.open(alloc, requests.as_mut_slice(), challenger)
     };
-    match with_claims(alloc, &committed.known, &requests, answer) {
+    match with_claims(alloc, known, &requests, answer) {
         Ok(opened) => opened,
         Err(_) => panic!(rt; "memory"),
     }

@@ -7,62 +7,50 @@ use p3_mmcs::OpenedValues;
 /// these.
 pub(crate) type Counts = [usize; 3];
 
-/// A first value that is wanted.
+/// What is wanted of a first value: it is added so many times to those before it, back to where
+/// their sum was wanted last, and the sum may be wanted now.
 #[derive(Clone, Copy)]
-pub(crate) enum First {
-    Any,
-    Is(u64),
-    /// Those of the chunks of a quotient recombine to the quotient's value, where each is
-    /// multiplied by its number.
-    Chunk(u64),
+pub(crate) struct First {
+    pub factor: u64,
+    pub sum: Option<u64>,
 }
 
-/// The recombined quotient at 1 of the chunks as they were handed in.
-const RECOMBINED: u64 = 1_664_801_475;
+/// A value that may be any.
+pub(crate) const ANY: First = First {
+    factor: 0,
+    sum: None,
+};
 
 /// Whether the commitments have these counts, and the first values of each matrix at each point are
-/// those that are wanted, of as many as are: those of chunks, if there are some, recombine to the
-/// quotient that they made before they were masked.
+/// those that are wanted, of as many as are.
 pub(crate) fn are_opened_so(
     values: &OpenedValues<BabyBear4>,
     counts: &[Counts],
     firsts: &[First],
 ) -> bool {
     let mut firsts = firsts.iter();
-    let mut has_chunks = false;
+    let mut are_so = values.len() == counts.len();
     let mut sum = BabyBear4::ZERO;
     for index in 0..values.len() {
-        let Some([num_matrices, num_points, num_values]) = counts.get(index) else {
+        if index >= counts.len() {
             return false;
-        };
-        let matrices = &values[index];
-        for points in matrices {
-            for values in points {
-                if values.len() != *num_values {
-                    return false;
-                }
-                match (values.first(), firsts.next()) {
-                    (Some(first), Some(First::Is(number))) => {
-                        if *first != BabyBear4::from_base(BabyBear::from_u64(*number)) {
-                            return false;
-                        }
-                    },
-                    (Some(first), Some(First::Chunk(factor))) => {
-                        has_chunks = true;
-                        sum = sum + first.scale(BabyBear::from_u64(*factor));
-                    },
-                    (None, Some(_)) => return false,
-                    _ => {},
-                }
-            }
-            if points.len() != *num_points {
-                return false;
-            }
         }
-        if matrices.len() != *num_matrices {
-            return false;
+        let [num_matrices, num_points, num_values] = counts[index];
+        let matrices = &values[index];
+        are_so = are_so && matrices.len() == num_matrices;
+        for points in matrices {
+            are_so = are_so && points.len() == num_points;
+            for values in points {
+                are_so = are_so && values.len() == num_values;
+                if let (Some(first), Some(wanted)) = (values.first(), firsts.next()) {
+                    sum = sum + first.scale(BabyBear::from_u64(wanted.factor));
+                    if let Some(number) = wanted.sum {
+                        are_so = are_so && sum == BabyBear4::from_base(BabyBear::from_u64(number));
+                        sum = BabyBear4::ZERO;
+                    }
+                }
+            }
         }
     }
-    let recombined = BabyBear4::from_base(BabyBear::from_u64(RECOMBINED));
-    values.len() == counts.len() && firsts.next().is_none() && (!has_chunks || sum == recombined)
+    are_so && firsts.next().is_none()
 }

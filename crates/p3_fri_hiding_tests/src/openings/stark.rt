@@ -1,17 +1,17 @@
-//! The columns of a STARK, opened by one function over any scheme, which here opens random
-//! polynomials beside them.
+//! A periodic column, and the columns of a STARK, opened by one function over any scheme, which
+//! opens random polynomials beside them here.
 
 ghost use Rattle.std.specs.Prelude.{◌≡◌, ◌≢◌, ◌*◌, ◌^◌, [], All, length, map};
 ghost use Rattle.p3_fri_hiding.specs.Quotients.{CanExtend};
 ghost use Rattle.p3_fri_hiding_tests.specs.Fits.{Fits};
 
-use crate::committable::{chunks, column, doubled};
-use crate::lists::one;
-use crate::matrices::{E, E_COLUMN, Entries, PI, PI_COLUMN, element};
+use crate::committable::{chunks, column};
+use crate::lists::{one, two};
+use crate::matrices::{E, E_COLUMN, Entries, PI, PI_COLUMN, coset, element};
 use crate::openings::cases::are_moved;
 use crate::openings::changes::Change;
 use crate::openings::quotient::{CHUNKS, FIRST_CHUNK, SECOND_CHUNK};
-use crate::openings::shapes::{Counts, First, are_opened_so};
+use crate::openings::shapes::{ANY, Counts, First, are_opened_so};
 use crate::scheme::{Domain, SMALL};
 use crate::tested::Tested;
 use p3_challenger::Sha256Challenger;
@@ -32,13 +32,25 @@ static RANDOM_COUNTS: [Counts; 4] = [[1, 2, 0], [1, 2, 4], [2, 1, 4], [1, 1, 4]]
 
 /// Preprocessing and trace have their first two rows, and the chunks recombine.
 static FIRSTS: [First; 7] = [
-    First::Is(E[0]),
-    First::Is(E[1]),
-    First::Is(PI[0]),
-    First::Is(PI[1]),
+    First {
+        factor: 1,
+        sum: Some(E[0]),
+    },
+    First {
+        factor: 1,
+        sum: Some(E[1]),
+    },
+    First {
+        factor: 1,
+        sum: Some(PI[0]),
+    },
+    First {
+        factor: 1,
+        sum: Some(PI[1]),
+    },
     FIRST_CHUNK,
     SECOND_CHUNK,
-    First::Any,
+    ANY,
 ];
 
 /// Preprocessed and trace of one column each, and chunks of a quotient, with domains on which what
@@ -54,8 +66,11 @@ fn stark_columns(rt: &impl Abort, alloc: Global) -> StarkColumns<Domain, BabyBea
 {
     let preprocessed = one(rt, alloc, column(rt, alloc, &E_COLUMN, 2));
     let trace = one(rt, alloc, column(rt, alloc, &PI_COLUMN, 2));
-    let quotient = chunks(rt, alloc, &QUOTIENT);
-    let quotient_domains = doubled(rt, alloc, &quotient);
+    let (first, second) = chunks(rt, alloc, &QUOTIENT);
+    let of_first = coset(rt, 1, first.0.log_size() + 1);
+    let of_second = coset(rt, 1, second.0.log_size() + 1);
+    let quotient_domains = two(rt, alloc, of_first, of_second);
+    let quotient = two(rt, alloc, first, second);
     StarkColumns {
         preprocessed,
         trace,
@@ -64,12 +79,24 @@ fn stark_columns(rt: &impl Abort, alloc: Global) -> StarkColumns<Domain, BabyBea
     }
 }
 
-/// Whether the columns are opened at 1 and at the next row's point: four commitments, of which the
-/// last is to four random polynomials, with these values, and with random ones beside the proof.
-/// Both sides end in one state that isn't the first.
-pub(crate) fn are_stark_columns_opened<P: Tested>(rt: &impl Abort, alloc: Global) -> bool {
-    let mut challenger = Sha256Challenger::new();
+/// Whether a periodic column of 1 and 3 along a trace of 8 rows has a table of four rows on the
+/// coset of 31 of 16 points: at the points 31 and -31 times a root of order 4 the values are
+/// `2 - 31^4` and `2 + 31^4`. And whether the columns are opened at 1 and at the next row's point:
+/// four commitments, of which the last is to four random polynomials, with these values, and with
+/// random ones beside the proof, where both sides end in one state that isn't the first.
+pub(crate) fn is_stark_served<P: Tested>(rt: &impl Abort, alloc: Global) -> bool {
     let mut scheme = P::of(SMALL);
+    let period = two(rt, alloc, BabyBear::from_u64(1), BabyBear::from_u64(3));
+    let periodic = one(rt, alloc, period);
+    let rows = coset(rt, 1, 3);
+    let points = coset(rt, 31, 4);
+    let Ok(table) = scheme.build_periodic_lde_table(alloc, &periodic, rows, points) else {
+        panic!(rt; "no table")
+    };
+    let has_entries = table.height() == 4
+        && table.get(0, 0) == Some(BabyBear::from_u64(2_012_342_402))
+        && table.get(14, 0) == Some(BabyBear::from_u64(923_523));
+    let mut challenger = Sha256Challenger::new();
     let columns = stark_columns(rt, alloc);
     let answer = open_stark_columns::<BabyBear4, Sha256Challenger, P>(
         &mut scheme,
@@ -79,16 +106,14 @@ pub(crate) fn are_stark_columns_opened<P: Tested>(rt: &impl Abort, alloc: Global
         element(GENERATOR),
         &mut challenger,
     );
-    match answer {
-        Ok(mut opened) => {
-            let proof = &mut opened.verified.proof;
-            let has_random_values = P::change_random_values(proof, &RANDOM_COUNTS, Change::Nothing);
-            let values = &opened.verified.values;
-            opened.known.len() == 4
-                && are_opened_so(values, &COUNTS, &FIRSTS)
-                && has_random_values
-                && are_moved(&challenger, &opened.verified.challenger)
-        }
-        Err(_) => panic!(rt; "not accepted"),
-    }
+    let Ok(mut opened) = answer else {
+        panic!(rt; "not accepted")
+    };
+    let proof = &mut opened.verified.proof;
+    let has_random_values = P::change_random_values(proof, &RANDOM_COUNTS, Change::Nothing);
+    has_entries
+        && has_random_values
+        && opened.known.len() == 4
+        && are_opened_so(&opened.verified.values, &COUNTS, &FIRSTS)
+        && are_moved(&challenger, &opened.verified.challenger)
 }

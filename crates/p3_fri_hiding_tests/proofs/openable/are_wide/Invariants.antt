@@ -1,6 +1,0 @@
-use Rattle.std.proofs.Common.{◌≤◌, All, take}
-use Rattle.p3_matrix.specs.Matrix.{matrix_width}
-use Rattle.p3_fri_hiding_tests.proofs.openable.are_wide.Given as goal
-
-abbrev pub invariant-loop-matrix : goal.invariant-loop-matrix
-invariant-loop-matrix l = All (λ m. l.width ≤ matrix_width m) (take l.matrix-index l.matrices)
