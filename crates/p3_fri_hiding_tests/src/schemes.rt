@@ -21,7 +21,7 @@ use p3_fri_two_adic::TwoAdicFriPcs;
 use p3_mmcs::{Mmcs, Sha256Mmcs};
 use p3_pcs::OpeningRequest;
 use rand_chacha::ChaCha20Rng;
-use std::alloc::{AllocError, Global};
+use std::alloc::AllocError;
 
 pub(crate) type Data = HidingFriPcsProverData<<Inputs as Mmcs<BabyBear>>::ProverData>;
 

@@ -16,7 +16,7 @@ use p3_field::{BabyBear, BabyBear4, Field};
 use p3_fri_masks::HidingFriProverError;
 use p3_pcs::OpeningRequest;
 use p3_stark_pcs::UnivariateStarkPcs;
-use std::alloc::{AllocError, Global};
+use std::alloc::AllocError;
 
 /// What the data of a commitment is like.
 #[derive(Clone, Copy)]

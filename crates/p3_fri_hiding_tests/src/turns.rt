@@ -1,7 +1,5 @@
 //! What a scheme commits to in turn, and what is read of it.
 
-ghost use Rattle.std.specs.Prelude.{◌≡◌};
-
 use crate::commitments::commit_to;
 use crate::kind::Kind;
 use crate::masks::readings::{Masked, Masks, is_masked};
