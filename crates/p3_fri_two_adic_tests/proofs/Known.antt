@@ -1,7 +1,7 @@
 -- What is known of a commitment, from what was committed to.
-use Rattle.std.proofs.Common.{◌≡◌, ◌≢◌, ◌<◌, ◌+◌, ℕ, List, [], ◌∷◌, ◌++◌, map, length, take, get_or, All}
+use Rattle.std.proofs.Common.{◌≡◌, ◌≢◌, ℕ, List, [], ◌∷◌, ◌++◌, map, length, All}
 use Rattle.std.proofs.Common.{refl, sym, subst, ap, ◌∙◌, arith}
-use Rattle.std.proofs.lemmas.List.{map_more}
+use Rattle.std.proofs.lemmas.List.{map_push}
 use Rattle.std.specs.List.{AllZip}
 use Rattle.std.proofs.lemmas.List.Elements.{All-cons, All-map}
 use Rattle.p3_pcs.specs.declared.claims.KnownCommitment.{KnownCommitment}
@@ -27,14 +27,14 @@ sizes_extended {E} {Domain} {Values} Extends size ds ms es extends sized are =
         let others = each ms es rest in
         cc
 
--- the domains of one more of these evaluations
-pub one_more_domain : {A B : Type 0} (es : List (A × B)) (i : ℕ) (e : A × B) (ds more : List A)
-    → i < length es → e ≡ get_or es i e → more ≡ ds ++ e.0 ∷ [] → ds ≡ map (λ e. e.0) (take i es)
-    → more ≡ map (λ e. e.0) (take (i + 1) es)
-one_more_domain {A} {B} es i e ds more below is pushed before =
-    pushed ∙ ap (λ (ds : List A). ds ++ e.0 ∷ []) before
-    ∙ ap (λ (x : A × B). map (λ (e : A × B). e.0) (take i es) ++ x.0 ∷ []) is
-    ∙ sym (map_more (λ (e : A × B). e.0) es i e below)
+-- the domains of one more evaluation
+pub one_more_domain : {A B : Type 0} (es more_es : List (A × B)) (e : A × B) (ds more_ds : List A)
+    → more_es ≡ es ++ e ∷ [] → more_ds ≡ ds ++ e.0 ∷ [] → ds ≡ map (λ e. e.0) es
+    → more_ds ≡ map (λ e. e.0) more_es
+one_more_domain {A} {B} es more_es e ds more_ds pushed_e pushed_d before =
+    pushed_d ∙ ap (λ (ds : List A). ds ++ e.0 ∷ []) before
+    ∙ sym (map_push (λ (e : A × B). e.0) es e)
+    ∙ ap (λ (es : List (A × B)). map (λ (e : A × B). e.0) es) (sym pushed_e)
 
 -- one request
 module _ {D E : Type 0} (r : OpeningRequest D E) where

@@ -1,11 +1,12 @@
 //! Openings that are accepted, with the values and the final polynomials worked out by hand.
 
-use crate::answers::answer_to;
-use crate::numbers::{Points, constant, values_of};
-use crate::opened::open_well;
+use crate::asked::{AT_FIVE, Case, Opening, Question, ask};
+use crate::numbers::{Points, are_values, constant};
 use crate::replayed::replay;
-use crate::scheme::{PLAIN, Proof, Setting};
+use crate::scheme::{BY_EIGHT, BY_FOUR, Claims, LONGER, PLAIN, Proof};
+use p3_challenger::Sha256Challenger;
 use p3_field::{BabyBear4, Field};
+use p3_mmcs::OpenedValues;
 use std::alloc::Global;
 use std::process::Abort;
 
@@ -27,223 +28,270 @@ const FOURTH: [u64; 8] = [
     2_013_265_920,
 ];
 
-/// The constant of a final polynomial, by the challenges.
-#[derive(Clone, Copy)]
-enum Last {
-    Number(u64),
-    /// The quotient of `X^2` at 5, folded.
-    SquareFolded,
-    /// The same with that of `2 - X` at 5 rolled in.
-    LineRolledIn,
-    /// Two quotients of `2 - X`.
-    TwoLines,
-    /// The quotient of `X^4` at 5, folded twice, with that of `2 - X` rolled in after the second.
-    FourthFolded,
-}
+/// A number times powers of `alpha`, of the first folding challenge and of the second.
+type Term = (u64, [u64; 3]);
 
-/// What is opened, and what comes of it.
-struct Case {
-    name: &'static str,
-    setting: Setting,
-    batches: Points<'static>,
-    points: Points<'static>,
+const ONE: [u64; 3] = [0, 0, 0];
+
+const ALPHA: [u64; 3] = [1, 0, 0];
+
+const BETA: [u64; 3] = [0, 1, 0];
+
+const SECOND: [u64; 3] = [0, 0, 1];
+
+/// What is seen of an opening: its values, the log heights of its words, how many entries a row has
+/// that a round folds, and the constant of the final polynomial by the challenges.
+pub(crate) struct Seen {
     values: Points<'static>,
     log_heights: &'static [usize],
-    /// How many entries a row has that a round folds.
     arities: &'static [usize],
-    last: Last,
+    last: &'static [Term],
 }
+
+/// The quotient of `2 - X` is -1.
+const OF_LINE: Seen = Seen {
+    values: &[&[&[2_013_265_918]]],
+    log_heights: &[2],
+    arities: &[2],
+    last: &[(2_013_265_920, ONE)],
+};
+
+/// The two quotients of `2 - X`.
+const TWO_LINES: &[Term] = &[(2_013_265_920, ONE), (2_013_265_920, ALPHA)];
+
+/// The quotient of `9` is zero.
+const OF_CONSTANT: Seen = Seen {
+    values: &[&[&[9]]],
+    log_heights: &[1],
+    arities: &[],
+    last: &[],
+};
 
 static CASES: [Case; 11] = [
     Case {
-        name: "a line at one point",
         setting: PLAIN,
         batches: &[&[&LINE]],
-        points: &[&[&[5]]],
-        values: &[&[&[2_013_265_918]]],
-        log_heights: &[2],
-        arities: &[2],
-        last: Last::Number(2_013_265_920),
+        openings: &[Opening {
+            name: "a line at one point",
+            seen: Some(OF_LINE),
+            ..AT_FIVE
+        }],
     },
     Case {
-        name: "a constant",
         setting: PLAIN,
         batches: &[&[&[9]]],
-        points: &[&[&[2]]],
-        values: &[&[&[9]]],
-        log_heights: &[1],
-        arities: &[],
-        last: Last::Number(0),
+        openings: &[Opening {
+            name: "a constant",
+            points: &[&[&[2]]],
+            seen: Some(OF_CONSTANT),
+            ..AT_FIVE
+        }],
     },
     Case {
-        name: "a constant at zero",
         setting: PLAIN,
         batches: &[&[&[9]]],
-        points: &[&[&[0]]],
-        values: &[&[&[9]]],
-        log_heights: &[1],
-        arities: &[],
-        last: Last::Number(0),
+        openings: &[Opening {
+            name: "a constant at zero",
+            points: &[&[&[0]]],
+            seen: Some(OF_CONSTANT),
+            ..AT_FIVE
+        }],
     },
     Case {
-        name: "a square folded by four",
-        setting: Setting {
-            max_log_arity: 2,
-            ..PLAIN
-        },
+        setting: BY_FOUR,
         batches: &[&[&SQUARE]],
-        points: &[&[&[5]]],
-        values: &[&[&[25]]],
-        log_heights: &[3],
-        arities: &[4],
-        last: Last::SquareFolded,
+        openings: &[Opening {
+            name: "a square folded by four",
+            setting: BY_FOUR,
+            verifier: BY_FOUR,
+            // its quotient at 5, folded
+            seen: Some(Seen {
+                values: &[&[&[25]]],
+                log_heights: &[3],
+                arities: &[4],
+                last: &[(5, ONE), (31, BETA)],
+            }),
+            ..AT_FIVE
+        }],
     },
     Case {
-        name: "a line at two points",
         setting: PLAIN,
         batches: &[&[&LINE]],
-        points: &[&[&[5, 7]]],
-        values: &[&[&[2_013_265_918, 2_013_265_916]]],
-        log_heights: &[2],
-        arities: &[2],
-        last: Last::TwoLines,
+        openings: &[Opening {
+            name: "a line at two points",
+            points: &[&[&[5, 7]]],
+            seen: Some(Seen {
+                values: &[&[&[2_013_265_918, 2_013_265_916]]],
+                last: TWO_LINES,
+                ..OF_LINE
+            }),
+            ..AT_FIVE
+        }],
     },
     Case {
-        name: "a line at two points, the other way round",
         setting: PLAIN,
         batches: &[&[&LINE]],
-        points: &[&[&[7, 5]]],
-        values: &[&[&[2_013_265_916, 2_013_265_918]]],
-        log_heights: &[2],
-        arities: &[2],
-        last: Last::TwoLines,
+        openings: &[Opening {
+            name: "a line at two points, the other way round",
+            points: &[&[&[7, 5]]],
+            seen: Some(Seen {
+                values: &[&[&[2_013_265_916, 2_013_265_918]]],
+                last: TWO_LINES,
+                ..OF_LINE
+            }),
+            ..AT_FIVE
+        }],
     },
     Case {
-        name: "a constant, folded to two coefficients",
-        setting: Setting {
-            log_final_poly_len: 1,
-            ..PLAIN
-        },
+        setting: LONGER,
         batches: &[&[&[1, 1, 1, 1]]],
-        points: &[&[&[2]]],
-        values: &[&[&[1]]],
-        log_heights: &[3],
-        arities: &[2],
-        last: Last::Number(0),
+        openings: &[Opening {
+            name: "a constant, folded to two coefficients",
+            setting: LONGER,
+            verifier: LONGER,
+            points: &[&[&[2]]],
+            seen: Some(Seen {
+                values: &[&[&[1]]],
+                log_heights: &[3],
+                arities: &[2],
+                last: &[],
+            }),
+            ..AT_FIVE
+        }],
     },
     // several matrices
     Case {
-        name: "a square and a line",
-        setting: Setting {
-            max_log_arity: 3,
-            ..PLAIN
-        },
+        setting: BY_EIGHT,
         batches: &[&[&SQUARE, &LINE]],
-        points: &[&[&[5], &[5]]],
-        values: &[&[&[25], &[2_013_265_918]]],
-        log_heights: &[3, 2],
-        arities: &[2, 2],
-        last: Last::LineRolledIn,
+        openings: &[Opening {
+            name: "a square and a line",
+            setting: BY_EIGHT,
+            verifier: BY_EIGHT,
+            points: &[&[&[5], &[5]]],
+            // the quotient of the line is rolled in
+            seen: Some(Seen {
+                values: &[&[&[25], &[2_013_265_918]]],
+                log_heights: &[3, 2],
+                arities: &[2, 2],
+                last: &[(5, ONE), (31, BETA), (2_013_265_920, [0, 2, 0])],
+            }),
+            ..AT_FIVE
+        }],
     },
     Case {
-        name: "two commitments to a line",
         setting: PLAIN,
         batches: &[&[&LINE], &[&LINE]],
-        points: &[&[&[5]], &[&[5]]],
-        values: &[&[&[2_013_265_918]], &[&[2_013_265_918]]],
-        log_heights: &[2],
-        arities: &[2],
-        last: Last::TwoLines,
+        openings: &[Opening {
+            name: "two commitments to a line",
+            points: &[&[&[5]], &[&[5]]],
+            seen: Some(Seen {
+                values: &[&[&[2_013_265_918]], &[&[2_013_265_918]]],
+                last: TWO_LINES,
+                ..OF_LINE
+            }),
+            ..AT_FIVE
+        }],
     },
     Case {
-        name: "a commitment to nothing, and one to a line",
         setting: PLAIN,
         batches: &[&[], &[&LINE]],
-        points: &[&[], &[&[5]]],
-        values: &[&[], &[&[2_013_265_918]]],
-        log_heights: &[2],
-        arities: &[2],
-        last: Last::Number(2_013_265_920),
+        openings: &[Opening {
+            name: "a commitment to nothing, and one to a line",
+            points: &[&[], &[&[5]]],
+            seen: Some(Seen {
+                values: &[&[], &[&[2_013_265_918]]],
+                ..OF_LINE
+            }),
+            ..AT_FIVE
+        }],
     },
     Case {
-        name: "a constant, a line and a fourth power",
         setting: PLAIN,
         batches: &[&[&[9], &LINE, &FOURTH]],
-        points: &[&[&[5], &[5], &[5]]],
-        values: &[&[&[9], &[2_013_265_918], &[625]]],
-        log_heights: &[4, 2, 1],
-        arities: &[2, 2, 2],
-        last: Last::FourthFolded,
+        openings: &[Opening {
+            name: "a constant, a line and a fourth power",
+            points: &[&[&[5], &[5], &[5]]],
+            // the quotient of `X^4` is folded twice, and then that of the line rolled in
+            seen: Some(Seen {
+                values: &[&[&[9], &[2_013_265_918], &[625]]],
+                log_heights: &[4, 2, 1],
+                arities: &[2, 2, 2],
+                last: &[
+                    (125, ONE),
+                    (775, BETA),
+                    (5 * 961, SECOND),
+                    (29_791, [0, 1, 1]),
+                    (2_013_265_920, [0, 0, 2]),
+                ],
+            }),
+            ..AT_FIVE
+        }],
     },
 ];
 
 /// The constant for these challenges.
-fn constant_of(last: Last, alpha: BabyBear4, betas: &[BabyBear4]) -> BabyBear4 {
-    let beta = betas.first().copied().unwrap_or(BabyBear4::ZERO);
-    let folded = constant(5) + constant(31) * beta;
-    match last {
-        Last::Number(number) => constant(number),
-        Last::SquareFolded => folded,
-        Last::LineRolledIn => folded - beta * beta,
-        Last::TwoLines => -(BabyBear4::ONE + alpha),
-        Last::FourthFolded => {
-            let second = betas.get(1).copied().unwrap_or(BabyBear4::ZERO);
-            let even = constant(125) + constant(775) * beta;
-            let odd = constant(5 * 961) + constant(29_791) * beta;
-            even + second * odd - second * second
-        },
+fn constant_of(last: &[Term], alpha: BabyBear4, betas: &[BabyBear4]) -> BabyBear4 {
+    let beta = betas.get(0).copied().unwrap_or(BabyBear4::ZERO);
+    let second = betas.get(1).copied().unwrap_or(BabyBear4::ZERO);
+    let mut sum = BabyBear4::ZERO;
+    for (number, [of_alpha, of_beta, of_second]) in last {
+        sum = sum
+            + constant(*number)
+                * alpha.exp_u64(*of_alpha)
+                * beta.exp_u64(*of_beta)
+                * second.exp_u64(*of_second);
     }
+    sum
 }
 
 /// Whether a round for each of these folds rows of so many entries, by its first query.
 fn are_arities(proof: &Proof, arities: &[usize]) -> bool {
+    let mut same = proof.commit_phase_openings.len() == arities.len()
+        && proof.commit_phase_commits.len() == arities.len();
     for (round, arity) in proof.commit_phase_openings.iter().zip(arities) {
-        let Some(siblings) = round.sibling_values.first() else {
-            return false;
+        let siblings = match round.sibling_values.first() {
+            Some(row) => row.len(),
+            None => 0,
         };
-        if siblings.len().saturating_add(1) != *arity {
-            return false;
-        }
+        same = same && siblings.saturating_add(1) == *arity;
     }
-    proof.commit_phase_openings.len() == arities.len()
-        && proof.commit_phase_commits.len() == arities.len()
+    same
 }
 
 /// Whether it has `2^log_len` coefficients, the first this one and the others zero.
 fn is_final_poly(coefficients: &[BabyBear4], log_len: usize, first: BabyBear4) -> bool {
-    for (index, coefficient) in coefficients.iter().enumerate() {
-        if *coefficient != (if index == 0 { first } else { BabyBear4::ZERO }) {
-            return false;
-        }
+    let mut same = log_len < 64 && coefficients.len() == 1 << log_len;
+    let mut wanted = first;
+    for coefficient in coefficients {
+        same = same && *coefficient == wanted;
+        wanted = BabyBear4::ZERO;
     }
-    log_len < 64 && coefficients.len() == 1 << log_len
+    same
 }
 
-/// Whether this comes of what is opened, where the transcripts end as it did, and is accepted by a
-/// verifier that ends as the prover.
-fn is_met(rt: &impl Abort, alloc: Global, case: &Case) -> bool {
-    let opened = open_well(rt, alloc, case.setting, case.batches, case.points);
-    let replayed = replay(rt, alloc, case.setting, case.log_heights, &opened);
-    let (drawn, challenger) = replayed.expect(rt, "the transcript is refused");
-    assert!(rt;
-        challenger == opened.challenger,
-        "the transcript ends elsewhere"
-    );
-    let first = constant_of(case.last, drawn.alpha, &drawn.betas);
-    let is_as_expected = opened.values == values_of(rt, alloc, case.values)
-        && are_arities(&opened.proof, case.arities)
-        && is_final_poly(
-            &opened.proof.final_poly,
-            case.setting.log_final_poly_len,
-            first,
-        );
-    let answer = answer_to(rt, alloc, case.setting, opened);
-    is_as_expected && answer.same && answer.text.as_str() == "accepted"
+/// Whether what is to be seen of an opening is, where the transcripts end as it did.
+pub(crate) fn is_seen(
+    rt: &impl Abort,
+    alloc: Global,
+    opening: &Opening,
+    values: &OpenedValues<BabyBear4>,
+    proof: &Proof,
+    claims: &Claims,
+    challenger: &Sha256Challenger,
+) -> bool {
+    let Some(seen) = &opening.seen else {
+        return true;
+    };
+    let replayed = replay(rt, alloc, opening.setting, seen.log_heights, proof, claims);
+    let (drawn, last) = replayed.expect(rt, "the transcript is refused");
+    let first = constant_of(seen.last, drawn.alpha, &drawn.betas);
+    last == *challenger
+        && are_values(rt, alloc, values, seen.values)
+        && are_arities(proof, seen.arities)
+        && is_final_poly(&proof.final_poly, opening.setting.log_final_poly_len, first)
 }
 
 #[test]
 fn columns_are_opened(rt: HostRuntime) {
-    for case in &CASES {
-        assert!(rt; is_met(&rt, rt.alloc(), case), "{}", case.name);
-    }
+    ask(&rt, rt.alloc(), Question::Openings(&CASES));
 }

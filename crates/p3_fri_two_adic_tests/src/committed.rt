@@ -17,14 +17,14 @@ fn subgroup(rt: &impl Abort, size: usize) -> Domain {
     TwoAdicMultiplicativeCoset::new(BabyBear::ONE, log_size).expect(rt, "not a domain")
 }
 
-/// The column on this domain, which has an extension.
-fn evaluation(
+/// The column on this domain, where it has an extension.
+fn column(
     rt: &impl Abort,
     alloc: Global,
     domain: Domain,
     numbers: &[u64],
-) -> (Domain, RowMajorMatrix<BabyBear>)
-    ensures { FitsDomain 27 1 result.0.log_size result.1 }
+) -> RowMajorMatrix<BabyBear>
+    ensures { FitsDomain 27 1 domain.log_size result }
 {
     let mut values = Vec::new(alloc);
     for number in numbers {
@@ -37,22 +37,7 @@ fn evaluation(
         matrix.height() == domain.size() && domain.log_size() <= 8,
         "not a column on its domain"
     );
-    (domain, matrix)
-}
-
-/// The domains of columns.
-fn domains_of(
-    rt: &impl Abort,
-    alloc: Global,
-    evaluations: &[(Domain, RowMajorMatrix<BabyBear>)],
-) -> Vec<Domain>
-    ensures { result.items ≡ map (λ e. e.0) evaluations.now }
-{
-    let mut domains = Vec::new(alloc);
-    for evaluation in evaluations {
-        domains.push(evaluation.0).expect(rt, "memory");
-    }
-    domains
+    matrix
 }
 
 /// One commitment to these columns, and its data: they are what a prover holds, and the domains are
@@ -70,13 +55,14 @@ pub(crate) fn commit<P: Tested>(
     ensures sizes { let r = P.rules scheme.new in map r.domain_size result.0.domains.items
         ≡ map (λ m. m.size) (r.committed_polynomials result.1) }
 {
+    let mut domains = Vec::new(alloc);
     let mut evaluations = Vec::new(alloc);
     for numbers in columns {
         let domain = scheme.natural_domain_for_degree(subgroup(rt, numbers.len()).size());
-        let evaluation = evaluation(rt, alloc, domain, *numbers);
-        evaluations.push(evaluation).expect(rt, "memory");
+        domains.push(domain).expect(rt, "memory");
+        let matrix = column(rt, alloc, domain, *numbers);
+        evaluations.push((domain, matrix)).expect(rt, "memory");
     }
-    let domains = domains_of(rt, alloc, &evaluations);
     let Ok(pair) = scheme.commit(alloc, evaluations) else {
         panic!(rt; "memory was refused")
     };

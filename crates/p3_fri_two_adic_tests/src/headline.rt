@@ -3,9 +3,10 @@
 ghost use Rattle.std.specs.Prelude.{◌≡◌, [], ◌∷◌};
 
 use crate::accepted::{LINE, SQUARE};
+use crate::asked::{Question, ask};
 use crate::committed::commit;
-use crate::numbers::{Points, points_of, values_of};
-use crate::scheme::{PLAIN, Scheme, Setting};
+use crate::numbers::{Points, are_values, points_of};
+use crate::scheme::{BY_EIGHT, PLAIN, Setting};
 use crate::tested::Tested;
 use p3_challenger::Sha256Challenger;
 use p3_pcs::{OpeningRequest, open_and_verify};
@@ -22,28 +23,25 @@ fn listed<T>(rt: &impl Abort, alloc: Global, value: T) -> Vec<T>
 }
 
 /// What is opened, and the values that it has.
-struct Case {
-    name: &'static str,
+pub(crate) struct Shown {
+    pub name: &'static str,
     setting: Setting,
     columns: &'static [&'static [u64]],
     points: &'static [&'static [u64]],
     values: Points<'static>,
 }
 
-static CASES: [Case; 2] = [
-    Case {
+static CASES: [Shown; 2] = [
+    Shown {
         name: "a line",
         setting: PLAIN,
         columns: &[&LINE],
         points: &[&[5]],
         values: &[&[&[2_013_265_918]]],
     },
-    Case {
+    Shown {
         name: "a square and a line",
-        setting: Setting {
-            max_log_arity: 3,
-            ..PLAIN
-        },
+        setting: BY_EIGHT,
         columns: &[&SQUARE, &LINE],
         points: &[&[5], &[7, 5]],
         values: &[&[&[25], &[2_013_265_916, 2_013_265_918]]],
@@ -52,7 +50,7 @@ static CASES: [Case; 2] = [
 
 /// Whether the columns under one commitment are opened and verified, with these values, and both
 /// sides end in one state that isn't the first.
-fn is_met<P: Tested>(rt: &impl Abort, alloc: Global, case: &Case) -> bool {
+pub(crate) fn is_shown<P: Tested>(rt: &impl Abort, alloc: Global, case: &Shown) -> bool {
     assert!(rt;
         case.setting.log_final_poly_len <= 31 && case.setting.max_log_arity > 0,
         "not in the range of prover and verifier"
@@ -78,19 +76,12 @@ fn is_met<P: Tested>(rt: &impl Abort, alloc: Global, case: &Case) -> bool {
         &mut challenger,
     );
     let verified = answer.expect(rt, "not accepted");
-    verified.values == values_of(rt, alloc, case.values)
+    are_values(rt, alloc, &verified.values, case.values)
         && verified.challenger == challenger
         && challenger != Sha256Challenger::new()
 }
 
-/// Whether they are so by the scheme over two-adic fields.
-fn is_met_here(rt: &impl Abort, alloc: Global, case: &Case) -> bool {
-    is_met::<Scheme>(rt, alloc, case)
-}
-
 #[test]
 fn what_is_opened_is_accepted(rt: HostRuntime) {
-    for case in &CASES {
-        assert!(rt; is_met_here(&rt, rt.alloc(), case), "{}", case.name);
-    }
+    ask(&rt, rt.alloc(), Question::Headline(&CASES));
 }

@@ -6,15 +6,13 @@ mod accepted;
 #[cfg(test)]
 mod altered;
 #[cfg(test)]
-mod answers;
+mod asked;
 #[cfg(test)]
 mod committed;
 #[cfg(test)]
 mod headline;
 #[cfg(test)]
 mod numbers;
-#[cfg(test)]
-mod opened;
 #[cfg(test)]
 mod refused;
 #[cfg(test)]

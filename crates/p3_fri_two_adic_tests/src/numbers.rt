@@ -40,24 +40,25 @@ pub(crate) fn points_of(rt: &impl Abort, alloc: Global, points: &[&[u64]]) -> Ve
     lists
 }
 
-/// Values of matrices of one column, by commitment, matrix and point.
-pub(crate) fn values_of(
+/// Whether these are the values of matrices of one column, by commitment, matrix and point.
+pub(crate) fn are_values(
     rt: &impl Abort,
     alloc: Global,
+    values: &OpenedValues<BabyBear4>,
     commitments: Points<'_>,
-) -> OpenedValues<BabyBear4> {
+) -> bool {
     let mut all = Vec::new(alloc);
     for each in commitments {
         let mut matrices = Vec::new(alloc);
         for numbers in *each {
             let mut points = Vec::new(alloc);
             for number in *numbers {
-                let values = vec![in alloc; constant(*number)].expect(rt, "memory");
-                points.push(values).expect(rt, "memory");
+                let value = vec![in alloc; constant(*number)].expect(rt, "memory");
+                points.push(value).expect(rt, "memory");
             }
             matrices.push(points).expect(rt, "memory");
         }
         all.push(matrices).expect(rt, "memory");
     }
-    all
+    *values == all
 }

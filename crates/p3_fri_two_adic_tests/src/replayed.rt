@@ -1,10 +1,9 @@
 //! Challenges by the public transcripts.
 
-use crate::opened::Opened;
-use crate::scheme::{Proof, Setting, parameters};
+use crate::scheme::{Claims, Proof, Setting, parameters};
 use p3_challenger::Sha256Challenger;
 use p3_field::{BabyBear, BabyBear4};
-use p3_fri_folding::{fold_schedule, is_strictly_falling};
+use p3_fri_folding::is_strictly_falling;
 use p3_fri_pcs_transcript::pcs_transcript::{PcsShape, ReplayedPcs, replay_pcs};
 use p3_fri_transcript::transcript::{FriMessages, FriShape};
 use std::alloc::Global;
@@ -17,37 +16,34 @@ pub(crate) fn replay(
     alloc: Global,
     setting: Setting,
     log_heights: &[usize],
-    opened: &Opened<Proof>,
+    proof: &Proof,
+    claims: &Claims,
 ) -> Option<(ReplayedPcs<BabyBear4>, Sha256Challenger)> {
+    let parameters = parameters(setting);
     assert!(rt;
-        setting.log_final_poly_len <= 31 && setting.max_log_arity > 0,
+        setting.log_final_poly_len <= 31 && parameters.max_log_arity > 0,
         "not conditions of a schedule"
     );
-    let parameters = parameters(setting);
-    let final_height = parameters.log_blowup + setting.log_final_poly_len;
     assert!(rt;
         is_strictly_falling(log_heights) && !log_heights.is_empty() && log_heights[0] <= 63,
         "not log heights"
     );
-    let rounds = fold_schedule(alloc, log_heights, final_height, setting.max_log_arity);
-    let schedule = rounds.expect(rt, "memory");
-    let test = FriShape::with_schedule(&parameters, schedule, log_heights[0]);
-    let Ok(shape) = PcsShape::from_claims(alloc, &parameters, &opened.claims) else {
-        panic!(rt; "memory was refused")
-    };
+    let test = FriShape::new(alloc, &parameters, log_heights, log_heights[0]);
+    let test = test.expect(rt, "memory");
+    let shape = PcsShape::from_claims(alloc, &parameters, claims).expect(rt, "memory");
     let messages = FriMessages::<BabyBear, BabyBear4, [u8; 32]> {
-        commitments: &opened.proof.commit_phase_commits,
-        commit_witnesses: &opened.proof.commit_pow_witnesses,
-        final_poly: &opened.proof.final_poly,
-        query_witness: Some(opened.proof.query_pow_witness),
+        commitments: &proof.commit_phase_commits,
+        commit_witnesses: &proof.commit_pow_witnesses,
+        final_poly: &proof.final_poly,
+        query_witness: Some(proof.query_pow_witness),
     };
     let mut challenger = Sha256Challenger::new();
     let replayed = replay_pcs(
         alloc,
         &mut challenger,
         shape,
-        &opened.claims,
-        Some(opened.proof.batch_pow_witness),
+        claims,
+        Some(proof.batch_pow_witness),
         test,
         messages,
     );

@@ -12,7 +12,7 @@ use p3_field::{BabyBear, BabyBear4, TwoAdicMultiplicativeCoset};
 use p3_fri_folding::{FriParameters, PowPhase};
 use p3_fri_openings::are_openable;
 use p3_fri_relation::error::FriError;
-use p3_fri_relation::proof::{BatchMultiOpening, FriProof};
+use p3_fri_relation::proof::{BatchMultiOpening, CommitPhaseMultiStep, FriProof};
 use p3_fri_two_adic::TwoAdicFriPcs;
 use p3_mmcs::{CommitmentOpening, Mmcs, Sha256Mmcs};
 use p3_pcs::OpeningRequest;
@@ -27,12 +27,11 @@ pub(crate) type Domain = TwoAdicMultiplicativeCoset<BabyBear>;
 
 pub(crate) type Claims = Vec<CommitmentOpening<BabyBear4, [u8; 32], Domain>>;
 
-pub(crate) type Proof = FriProof<
-    BabyBear4,
-    Rounds,
-    BabyBear,
-    Vec<BatchMultiOpening<BabyBear, Inputs>>,
->;
+pub(crate) type RoundOpening = CommitPhaseMultiStep<BabyBear4, Rounds>;
+
+pub(crate) type InputOpening = BatchMultiOpening<BabyBear, Inputs>;
+
+pub(crate) type Proof = FriProof<BabyBear4, Rounds, BabyBear, Vec<InputOpening>>;
 
 /// Why a verifier refuses.
 pub(crate) type VerifierError = FriError<
@@ -54,6 +53,23 @@ pub(crate) const PLAIN: Setting = Setting {
     log_final_poly_len: 0,
     max_log_arity: 1,
     work: None,
+};
+
+/// Rounds that fold by up to four, and by up to eight.
+pub(crate) const BY_FOUR: Setting = Setting {
+    max_log_arity: 2,
+    ..PLAIN
+};
+
+pub(crate) const BY_EIGHT: Setting = Setting {
+    max_log_arity: 3,
+    ..PLAIN
+};
+
+/// A final polynomial of two coefficients.
+pub(crate) const LONGER: Setting = Setting {
+    log_final_poly_len: 1,
+    ..PLAIN
 };
 
 /// The difficulty of that phase.
@@ -92,6 +108,10 @@ impl Tested for Scheme {
 
     fn of(setting: Setting) -> Self {
         TwoAdicFriPcs::new(Radix2Dit::default(), Sha256Mmcs::new(), parameters(setting))
+    }
+
+    fn lent(proof: &mut Self::Proof) -> &mut Proof {
+        proof
     }
 
     fn are_openable(

@@ -6,7 +6,7 @@ ghost use Rattle.p3_pcs.specs.Requests.{request};
 ghost use Rattle.p3_pcs.specs.Scheme.{CanBeOpened};
 ghost use Rattle.p3_fri_two_adic_tests.specs.Room.{HasRoom};
 
-use crate::scheme::{Domain, Setting, VerifierError};
+use crate::scheme::{Domain, Proof, Setting, VerifierError};
 use p3_challenger::Sha256Challenger;
 use p3_field::{BabyBear, BabyBear4};
 use p3_fri_folding::FriProverError;
@@ -32,6 +32,9 @@ pub(crate) trait Tested: Pcs<
         ensures prover { 0 < setting.max_log_arity → (Self.rules result).InProverRange }
         ensures verifier { setting.log_final_poly_len ≤ 31
             → (Self.rules result).InVerifierRange };
+
+    /// The proof, as one of the scheme over two-adic fields.
+    fn lent(proof: &mut Self::Proof) -> &mut Proof;
 
     /// Whether the requests may be opened.
     fn are_openable(&self, requests: &[OpeningRequest<'_, Self::ProverData, BabyBear4>]) -> bool

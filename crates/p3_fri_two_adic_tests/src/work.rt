@@ -1,30 +1,108 @@
-//! Witnesses that don't pass their proof of work.
+//! Proofs of work, and witnesses that don't pass them.
 
 use crate::accepted::LINE;
-use crate::answers::answer_to;
-use crate::opened::{Opened, open_well};
+use crate::altered::Change;
+use crate::asked::{AT_FIVE, Case, Expected, Opening, Question, ask};
 use crate::replayed::replay;
-use crate::scheme::{PLAIN, Proof, Setting};
+use crate::scheme::{Claims, PLAIN, Proof, Setting};
 use p3_field::{BabyBear, Field};
 use p3_fri_folding::PowPhase;
 use std::alloc::Global;
 use std::process::Abort;
 
-/// A proof of work in that phase alone.
-fn worked(phase: PowPhase) -> Setting {
-    Setting {
-        work: Some(phase),
-        ..PLAIN
-    }
-}
+/// A proof of work in one phase alone.
+const BATCH: Setting = Setting {
+    work: Some(PowPhase::Batch),
+    ..PLAIN
+};
 
-/// The opening of `2 - X` at 5.
-fn line_opened(rt: &impl Abort, alloc: Global, setting: Setting) -> Opened<Proof> {
-    open_well(rt, alloc, setting, &[&[&LINE]], &[&[&[5]]])
-}
+const COMMIT_PHASE: Setting = Setting {
+    work: Some(PowPhase::CommitPhase),
+    ..PLAIN
+};
+
+const QUERY: Setting = Setting {
+    work: Some(PowPhase::Query),
+    ..PLAIN
+};
+
+/// Openings of `2 - X` at 5 with their witnesses, with others, and without work.
+static CASES: [Case; 4] = [
+    Case {
+        setting: BATCH,
+        batches: &[&[&LINE]],
+        openings: &[
+            Opening {
+                name: "a batch witness",
+                setting: BATCH,
+                verifier: BATCH,
+                ..AT_FIVE
+            },
+            Opening {
+                name: "another batch witness",
+                setting: BATCH,
+                change: Change::RefusedWitness(PowPhase::Batch),
+                verifier: BATCH,
+                expected: Expected::Named("InvalidPowWitness(Batch)", false),
+                ..AT_FIVE
+            },
+        ],
+    },
+    Case {
+        setting: COMMIT_PHASE,
+        batches: &[&[&LINE]],
+        openings: &[
+            Opening {
+                name: "a round's witness",
+                setting: COMMIT_PHASE,
+                verifier: COMMIT_PHASE,
+                ..AT_FIVE
+            },
+            Opening {
+                name: "another witness of a round",
+                setting: COMMIT_PHASE,
+                change: Change::RefusedWitness(PowPhase::CommitPhase),
+                verifier: COMMIT_PHASE,
+                expected: Expected::Named("InvalidPowWitness(CommitPhase)", false),
+                ..AT_FIVE
+            },
+        ],
+    },
+    Case {
+        setting: QUERY,
+        batches: &[&[&LINE]],
+        openings: &[
+            Opening {
+                name: "a query witness",
+                setting: QUERY,
+                verifier: QUERY,
+                ..AT_FIVE
+            },
+            Opening {
+                name: "another query witness",
+                setting: QUERY,
+                change: Change::RefusedWitness(PowPhase::Query),
+                verifier: QUERY,
+                expected: Expected::Named("InvalidPowWitness(Query)", false),
+                ..AT_FIVE
+            },
+        ],
+    },
+    Case {
+        setting: PLAIN,
+        batches: &[&[&LINE]],
+        openings: &[Opening {
+            name: "no batch witness",
+            verifier: BATCH,
+            expected: Expected::Named("InvalidPowWitness(Batch)", false),
+            ..AT_FIVE
+        }],
+    },
+];
 
 /// Gives the proof that witness.
-fn set_witness(proof: &mut Proof, phase: PowPhase, witness: BabyBear) {
+pub(crate) fn set_witness(proof: &mut Proof, phase: PowPhase, number: u64) {
+    let witness = BabyBear::from_u64(number);
     match phase {
         PowPhase::Batch => proof.batch_pow_witness = witness,
         PowPhase::CommitPhase => proof.commit_pow_witnesses.fill(witness),
@@ -32,69 +110,26 @@ fn set_witness(proof: &mut Proof, phase: PowPhase, witness: BabyBear) {
     }
 }
 
-/// The opening with the least witness in that phase that the transcripts refuse.
-fn with_another_witness(rt: &impl Abort, alloc: Global, phase: PowPhase) -> Opened<Proof> {
-    let setting = worked(phase);
-    let mut opened = line_opened(rt, alloc, setting);
+/// Gives the proof the least witness in that phase that the transcripts refuse.
+pub(crate) fn refuse_work(
+    rt: &impl Abort,
+    alloc: Global,
+    setting: Setting,
+    phase: PowPhase,
+    proof: &mut Proof,
+    claims: &Claims,
+) {
+    let mut is_refused = false;
     for number in 0..64 {
-        set_witness(&mut opened.proof, phase, BabyBear::from_u64(number));
-        if replay(rt, alloc, setting, &[2], &opened).is_none() {
-            return opened;
+        if !is_refused {
+            set_witness(proof, phase, number);
+            is_refused = replay(rt, alloc, setting, &[2], proof, claims).is_none();
         }
     }
-    panic!(rt; "each witness passes")
-}
-
-/// How an opening is made for a verifier that asks for work.
-enum Made {
-    WithItsWitness,
-    WithAnotherWitness,
-    WithoutWork,
-}
-
-/// The phase in which work is asked for, the opening, and the answer.
-static CASES: [(PowPhase, Made, &str); 7] = [
-    (PowPhase::Batch, Made::WithItsWitness, "accepted"),
-    (PowPhase::CommitPhase, Made::WithItsWitness, "accepted"),
-    (PowPhase::Query, Made::WithItsWitness, "accepted"),
-    (
-        PowPhase::Batch,
-        Made::WithAnotherWitness,
-        "InvalidPowWitness(Batch)",
-    ),
-    (
-        PowPhase::CommitPhase,
-        Made::WithAnotherWitness,
-        "InvalidPowWitness(CommitPhase)",
-    ),
-    (
-        PowPhase::Query,
-        Made::WithAnotherWitness,
-        "InvalidPowWitness(Query)",
-    ),
-    (
-        PowPhase::Batch,
-        Made::WithoutWork,
-        "InvalidPowWitness(Batch)",
-    ),
-];
-
-/// Whether the verifier answers so to the opening.
-fn is_met(rt: &impl Abort, alloc: Global, phase: PowPhase, made: &Made, expected: &str) -> bool {
-    let opened = match made {
-        Made::WithItsWitness => line_opened(rt, alloc, worked(phase)),
-        Made::WithAnotherWitness => with_another_witness(rt, alloc, phase),
-        Made::WithoutWork => line_opened(rt, alloc, PLAIN),
-    };
-    answer_to(rt, alloc, worked(phase), opened).text.as_str() == expected
+    assert!(rt; is_refused, "each witness passes");
 }
 
 #[test]
 fn work_is_verified(rt: HostRuntime) {
-    for (index, (phase, made, expected)) in CASES.iter().enumerate() {
-        assert!(rt;
-            is_met(&rt, rt.alloc(), *phase, made, *expected),
-            "case {index}"
-        );
-    }
+    ask(&rt, rt.alloc(), Question::Openings(&CASES));
 }

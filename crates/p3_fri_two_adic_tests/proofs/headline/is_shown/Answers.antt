@@ -1,7 +1,7 @@
 use Rattle.std.proofs.Common.{◌∷◌, [], ap, sym, rules, ◌∙◌}
 use Rattle.p3_fri_openings.proofs.OpenableRequests.{openable_same}
 use Rattle.p3_fri_two_adic_tests.proofs.Known.{one_is_honest, one_fits}
-use Rattle.p3_fri_two_adic_tests.proofs.headline.is_met.Goals as goal
+use Rattle.p3_fri_two_adic_tests.proofs.headline.is_shown.Goals as goal
 
 pub open_and_verify-answer-requires-clause-prover :
     goal.open_and_verify-answer-requires-clause-prover
