@@ -64,7 +64,7 @@ fn input_at<E: Copy>(inputs: &[(usize, E)], log_height: usize) -> Option<E>
 }
 
 /// One round of a query: the value after it, and the row that it folds.
-#[tactic(auto, using(p3_field_core::proofs::IndexPowers::index_cut, crate::proofs::Rows::row_fits))]
+#[tactic(auto, using(crate::proofs::Rows::row_fits))]
 fn fold_round<F: TwoAdicField, EF: ExtensionField<F>, S: FriFoldingStrategy<F, EF>>(
     alloc: Global,
     folding: &S,
