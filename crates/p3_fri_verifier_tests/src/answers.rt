@@ -10,6 +10,7 @@ use p3_fri_verifier::verify_fri;
 use p3_mmcs::{CommitmentOpening, Sha256Mmcs, Sha256MmcsError};
 use std::alloc::Global;
 use std::marker::PhantomData;
+use std::process::Abort;
 
 pub(crate) type Inputs = Sha256Mmcs<BabyBear>;
 
@@ -80,6 +81,7 @@ pub(crate) enum Left {
 /// Whether this is the answer to a proof, as text, or whatever refusal, where the strategy draws so
 /// many extra bits with each index.
 pub(crate) fn is_answer(
+    rt: &impl Abort,
     alloc: Global,
     parameters: &Parameters,
     extra_bits: usize,
@@ -87,14 +89,14 @@ pub(crate) fn is_answer(
     expected: Option<&str>,
     left: Left,
 ) -> bool {
-    if parameters.log_blowup > 31
-        || parameters.log_final_poly_len > 31
-        || parameters.commit_proof_of_work_bits > 63
-        || parameters.query_proof_of_work_bits > 63
-        || extra_bits > 3
-    {
-        return false;
-    }
+    assert!(rt;
+        parameters.log_blowup <= 31
+            && parameters.log_final_poly_len <= 31
+            && parameters.commit_proof_of_work_bits <= 63
+            && parameters.query_proof_of_work_bits <= 63
+            && extra_bits <= 3,
+        "not in the verifier's range"
+    );
     let plain: Plain = TwoAdicFriFolding(PhantomData);
     let folding = WithExtraBits::new(plain, extra_bits);
     let mut challenger = challenger_after(made.start);
@@ -113,14 +115,15 @@ pub(crate) fn is_answer(
         Left::AtTheEnd => challenger == made.last,
         Left::Unmoved => challenger == challenger_after(made.start),
     };
-    let Err(refusal) = answer else {
-        return is_left && expected == Some("accepted");
+    let is_expected = match answer {
+        Ok(()) => expected == Some("accepted"),
+        Err(refusal) => match expected {
+            Some(name) => {
+                let text = format!(in alloc; "{refusal:?}").expect(rt, "memory");
+                text.as_str() == name
+            },
+            None => true,
+        },
     };
-    let Some(name) = expected else {
-        return is_left;
-    };
-    match format!(in alloc; "{refusal:?}") {
-        Ok(text) => is_left && text.as_str() == name,
-        Err(_) => false,
-    }
+    is_left && is_expected
 }

@@ -44,6 +44,7 @@ pub(crate) const ACCEPTED: Case = Case {
 pub(crate) const TWO_ROUNDS: Setting = Setting {
     log_size: 4,
     max_log_arity: 2,
+    log_arities: &[2, 1],
     log_final_poly_len: 1,
     ..LINES
 };
@@ -53,12 +54,14 @@ const NINES: Setting = Setting {
     is_line: false,
     claimed: Some(9),
     log_size: 0,
+    log_arities: &[],
     ..LINES
 };
 
 /// Three bits more than the positions have are drawn with each index.
 const THREE_EXTRA_BITS: Setting = Setting {
     log_size: 4,
+    log_arities: &[1, 1, 1],
     log_final_poly_len: 1,
     extra_bits: 3,
     ..LINES
@@ -126,6 +129,7 @@ static CASES: [Case; 9] = [
         name: "position 3",
         setting: Setting {
             num_queries: 1,
+            log_arities: &[],
             log_final_poly_len: 1,
             extra_bits: 2,
             start: 23,
@@ -148,6 +152,7 @@ pub(crate) fn is_met(rt: &impl Abort, alloc: Global, case: &Case) -> bool {
     let mut parameters = parameters_of(&case.setting);
     parameters.query_proof_of_work_bits = case.query_bits;
     is_answer(
+        rt,
         alloc,
         &parameters,
         case.extra_bits,

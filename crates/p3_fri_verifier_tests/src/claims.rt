@@ -1,9 +1,8 @@
-//! What is claimed of columns, and proofs without rounds.
+//! What is claimed of columns.
 
-use crate::answers::{Claims, Domain, InputOpening, Made, challenger_after, constant};
+use crate::answers::{Domain, constant};
 use p3_field::{BabyBear, BabyBear4, Field};
-use p3_fri_relation::proof::FriProof;
-use p3_mmcs::{CommitmentOpening, MatrixOpening, PointOpening};
+use p3_mmcs::{MatrixOpening, PointOpening};
 use std::alloc::Global;
 use std::process::Abort;
 
@@ -26,39 +25,4 @@ pub(crate) fn matrix_claim(
         points.push(point).expect(rt, "memory");
     }
     MatrixOpening { domain, points }
-}
-
-/// That the only column that is committed to is 9 there.
-pub(crate) fn column_claims(rt: &impl Abort, alloc: Global, log_size: usize) -> Claims {
-    let claim = matrix_claim(rt, alloc, log_size, 1, Some(9));
-    let matrices = vec![in alloc; claim].expect(rt, "memory");
-    let claim = CommitmentOpening {
-        commitment: [0; 32],
-        matrices,
-    };
-    vec![in alloc; claim].expect(rt, "memory")
-}
-
-/// A proof of these claims without rounds, whose final polynomial is zero.
-pub(crate) fn bare_proof(
-    rt: &impl Abort,
-    alloc: Global,
-    claims: Claims,
-    input_openings: Vec<InputOpening>,
-) -> Made {
-    let proof = FriProof {
-        batch_pow_witness: BabyBear::ZERO,
-        commit_phase_commits: Vec::new(alloc),
-        commit_pow_witnesses: Vec::new(alloc),
-        input_openings,
-        commit_phase_openings: Vec::new(alloc),
-        final_poly: vec![in alloc; BabyBear4::ZERO].expect(rt, "memory"),
-        query_pow_witness: BabyBear::ZERO,
-    };
-    Made {
-        proof,
-        claims,
-        start: 1,
-        last: challenger_after(1),
-    }
 }

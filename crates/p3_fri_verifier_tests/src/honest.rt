@@ -10,9 +10,7 @@ use crate::answers::{
 };
 use crate::claims::matrix_claim;
 use crate::commitments::{committed, matrix_of, opened};
-use p3_challenger::Sha256Challenger;
-use p3_field::{BabyBear, BabyBear4, Field, TwoAdicField};
-use p3_fri_folding::fold_schedule;
+use p3_field::{BabyBear, BabyBear4, Field};
 use p3_fri_relation::proof::{BatchMultiOpening, CommitPhaseMultiStep, FriProof};
 use p3_fri_transcript::transcript::{FriMessages, FriShape, replay_fri};
 use p3_matrix::RowMajorMatrix;
@@ -37,6 +35,8 @@ pub(crate) struct Setting {
     pub log_size: usize,
     pub num_queries: usize,
     pub max_log_arity: usize,
+    /// The rounds' arities that the cap leads to.
+    pub log_arities: &'static [usize],
     pub log_final_poly_len: usize,
     pub extra_bits: usize,
     /// What the challenger absorbs first.
@@ -52,6 +52,7 @@ pub(crate) const LINES: Setting = Setting {
     log_size: 1,
     num_queries: 2,
     max_log_arity: 1,
+    log_arities: &[1],
     log_final_poly_len: 0,
     extra_bits: 0,
     start: 1,
@@ -143,21 +144,7 @@ fn open_inputs(
     openings
 }
 
-/// The commitment of a round that leaves a word of this log height.
-fn commit_round(
-    rt: &impl Abort,
-    alloc: Global,
-    log_height: usize,
-    log_arity: usize,
-) -> ([u8; 32], RoundData) {
-    assert!(rt; log_height <= 8 && log_arity <= 8, "a tall word");
-    let values = vec![in alloc; constant(SUM); 1 << (log_height + log_arity)].expect(rt, "memory");
-    let matrix = matrix_of(rt, values, 1 << log_arity);
-    let matrices = vec![in alloc; matrix].expect(rt, "memory");
-    committed(rt, alloc, &Rounds::new(), matrices)
-}
-
-/// The commitments of the rounds.
+/// The commitments of the rounds, to constant words of which the first is of this log height.
 fn commit_rounds(
     rt: &impl Abort,
     alloc: Global,
@@ -168,11 +155,14 @@ fn commit_rounds(
     let mut data = Vec::new(alloc);
     let mut height = log_height;
     for log_arity in log_arities {
-        assert!(rt; *log_arity <= height, "a long schedule");
-        height -= *log_arity;
-        let (commitment, kept) = commit_round(rt, alloc, height, *log_arity);
+        assert!(rt; *log_arity <= height && height <= 9, "a long schedule");
+        let values = vec![in alloc; constant(SUM); 1 << height].expect(rt, "memory");
+        let matrix = matrix_of(rt, values, 1 << *log_arity);
+        let matrices = vec![in alloc; matrix].expect(rt, "memory");
+        let (commitment, kept) = committed(rt, alloc, &Rounds::new(), matrices);
         commitments.push(commitment).expect(rt, "memory");
         data.push(kept).expect(rt, "memory");
+        height -= *log_arity;
     }
     (commitments, data)
 }
@@ -188,29 +178,6 @@ fn shifted(rt: &impl Abort, alloc: Global, numbers: &[usize], bits: usize) -> Ve
     all
 }
 
-/// What one round opens at these indices.
-fn open_round(
-    rt: &impl Abort,
-    alloc: Global,
-    log_arity: usize,
-    data: &RoundData,
-    indices: &[usize],
-) -> RoundOpening
-    requires { log_arity < 64 }
-{
-    let siblings = (1_usize << log_arity).saturating_sub(1);
-    let mut sibling_values = Vec::new(alloc);
-    for _ in indices {
-        let row = vec![in alloc; constant(SUM); siblings].expect(rt, "memory");
-        sibling_values.push(row).expect(rt, "memory");
-    }
-    let (_rows, opening_proof) = opened(rt, alloc, &Rounds::new(), data, indices);
-    CommitPhaseMultiStep {
-        sibling_values,
-        opening_proof,
-    }
-}
-
 /// What all rounds open at these positions.
 fn open_rounds(
     rt: &impl Abort,
@@ -224,87 +191,70 @@ fn open_rounds(
     for (log_arity, kept) in log_arities.iter().zip(data) {
         assert!(rt; *log_arity <= 8 && bits <= 32, "a long row");
         bits += *log_arity;
+        let siblings = (1_usize << *log_arity).saturating_sub(1);
+        let mut sibling_values = Vec::new(alloc);
+        for _ in positions {
+            let row = vec![in alloc; constant(SUM); siblings].expect(rt, "memory");
+            sibling_values.push(row).expect(rt, "memory");
+        }
         let indices = shifted(rt, alloc, positions, bits);
-        let opening = open_round(rt, alloc, *log_arity, kept, &indices);
+        let (_rows, opening_proof) = opened(rt, alloc, &Rounds::new(), kept, &indices);
+        let opening = CommitPhaseMultiStep {
+            sibling_values,
+            opening_proof,
+        };
         openings.push(opening).expect(rt, "memory");
     }
     openings
 }
 
-/// The indices that the test's transcript draws, and the challenger in which it ends.
-fn drawn_indices(
-    rt: &impl Abort,
-    alloc: Global,
-    setting: &Setting,
-    schedule: Vec<usize>,
-    messages: FriMessages<'_, BabyBear, BabyBear4, [u8; 32]>,
-) -> (Vec<usize>, Sha256Challenger)
-    requires log_size { setting.now.log_size ≤ 8 }
-    requires extra_bits { setting.now.extra_bits ≤ 3 }
-    requires log_final_poly_len { setting.now.log_final_poly_len ≤ 8 }
-{
-    let parameters = parameters_of(setting);
-    assert!(rt;
-        parameters.commit_proof_of_work_bits <= 63 && parameters.query_proof_of_work_bits <= 63,
-        "not conditions of the transcript"
-    );
-    let index_bits = setting.log_size + 1 + setting.extra_bits;
-    let shape = FriShape::with_schedule(&parameters, schedule, index_bits);
-    let mut challenger = challenger_after(setting.start);
-    let Ok(replayed) = replay_fri(alloc, &mut challenger, shape, messages) else {
-        panic!(rt; "the transcript is refused")
-    };
-    assert!(rt;
-        setting.drawn.is_empty() || replayed.indices.as_slice() == setting.drawn,
-        "other indices"
-    );
-    (replayed.indices, challenger)
-}
-
-/// The final polynomial: the constant, with zeros up to the length that the parameters fix.
-fn final_poly_of(rt: &impl Abort, alloc: Global, setting: &Setting) -> Vec<BabyBear4>
-    requires { setting.now.log_final_poly_len < 64 }
-{
-    let length = 1 << setting.log_final_poly_len;
-    let mut coefficients = vec![in alloc; BabyBear4::ZERO; length].expect(rt, "memory");
-    if let (true, Some(first)) = (setting.is_line, coefficients.first_mut()) {
-        *first = constant(SUM);
-    }
-    coefficients
-}
-
 /// An honest proof of the setting.
 pub(crate) fn make_honest(rt: &impl Abort, alloc: Global, setting: &Setting) -> Made {
     let log_len = setting.log_final_poly_len;
+    let parameters = parameters_of(setting);
     assert!(rt;
-        setting.log_size <= 8
-            && setting.extra_bits <= 3
-            && log_len <= 8
-            && setting.max_log_arity > 0,
+        setting.log_size <= 8 && setting.extra_bits <= 3 && log_len <= 8,
         "a large proof"
     );
+    assert!(rt;
+        parameters.commit_proof_of_work_bits <= 63
+            && parameters.query_proof_of_work_bits <= 63
+            && parameters.log_blowup <= 31
+            && parameters.max_log_arity > 0,
+        "not conditions of the transcript"
+    );
     let height = setting.log_size + 1;
-    let log_arities = fold_schedule(alloc, &[height], 1 + log_len, setting.max_log_arity);
-    let log_arities = log_arities.expect(rt, "memory");
-    let (commitments, rounds) = commit_rounds(rt, alloc, height, &log_arities);
+    let (commitments, rounds) = commit_rounds(rt, alloc, height, setting.log_arities);
     let (claims, inputs) = commit_inputs(rt, alloc, setting);
-    let final_poly = final_poly_of(rt, alloc, setting);
-    let witnesses = vec![in alloc; BabyBear::ZERO; log_arities.len()].expect(rt, "memory");
-    let schedule = Vec::from_slice(alloc, &log_arities).expect(rt, "memory");
+    let first = constant(if setting.is_line { SUM } else { 0 });
+    let mut final_poly = vec![in alloc; first].expect(rt, "memory");
+    final_poly
+        .resize(1 << log_len, BabyBear4::ZERO)
+        .expect(rt, "memory");
+    let witnesses = vec![in alloc; BabyBear::ZERO; commitments.len()].expect(rt, "memory");
     let messages = FriMessages::<BabyBear, BabyBear4, [u8; 32]> {
         commitments: &commitments,
         commit_witnesses: &witnesses,
         final_poly: &final_poly,
         query_witness: Some(BabyBear::ZERO),
     };
-    let (drawn, last) = drawn_indices(rt, alloc, setting, schedule, messages);
-    let positions = shifted(rt, alloc, &drawn, setting.extra_bits);
+    let shape = FriShape::new(alloc, &parameters, &[height], height + setting.extra_bits);
+    let shape = shape.expect(rt, "memory");
+    let mut last = challenger_after(setting.start);
+    let Ok(replayed) = replay_fri(alloc, &mut last, shape, messages) else {
+        panic!(rt; "the transcript is refused")
+    };
+    assert!(rt;
+        setting.drawn.is_empty() || replayed.indices.as_slice() == setting.drawn,
+        "other indices"
+    );
+    let positions = shifted(rt, alloc, &replayed.indices, setting.extra_bits);
     let proof = FriProof {
         batch_pow_witness: BabyBear::ZERO,
         commit_phase_commits: commitments,
         commit_pow_witnesses: witnesses,
         input_openings: open_inputs(rt, alloc, &inputs, &positions),
-        commit_phase_openings: open_rounds(rt, alloc, &log_arities, &rounds, &positions),
+        commit_phase_openings: open_rounds(rt, alloc, setting.log_arities, &rounds, &positions),
         final_poly,
         query_pow_witness: BabyBear::ZERO,
     };

@@ -1,8 +1,10 @@
 //! Parameters, claims and openings that are refused by name, before anything is drawn.
 
-use crate::answers::{Left, Parameters, is_answer, plain_parameters};
-use crate::claims::{bare_proof, column_claims};
-use p3_fri_relation::proof::BatchMultiOpening;
+use crate::answers::{Left, Made, challenger_after, is_answer, plain_parameters};
+use crate::claims::matrix_claim;
+use p3_field::{BabyBear, BabyBear4, Field};
+use p3_fri_relation::proof::{BatchMultiOpening, FriProof};
+use p3_mmcs::CommitmentOpening;
 use std::alloc::Global;
 use std::process::Abort;
 
@@ -75,33 +77,53 @@ static CASES: [Case; 8] = [
     },
 ];
 
-/// The parameters of the case.
-fn parameters_of(case: &Case) -> Parameters {
-    let mut parameters = plain_parameters();
-    parameters.num_queries = case.num_queries;
-    parameters.log_blowup = case.log_blowup;
-    parameters.max_log_arity = case.max_log_arity;
-    parameters.log_final_poly_len = case.log_final_poly_len;
-    parameters
-}
-
-/// Whether the bare proof of that claim, or of none, is refused so by a new challenger.
-fn is_met(rt: &impl Abort, alloc: Global, case: &Case) -> bool {
-    let claims = match case.log_size {
-        Some(log_size) => column_claims(rt, alloc, log_size),
-        None => Vec::new(alloc),
-    };
-    let mut inputs = Vec::new(alloc);
+/// A proof without rounds, whose final polynomial is zero, of what is claimed: nothing, or that the
+/// only column that is committed to is 9 at the point 2.
+fn make_bare(rt: &impl Abort, alloc: Global, case: &Case) -> Made {
+    let mut claims = Vec::new(alloc);
+    if let Some(log_size) = case.log_size {
+        let matrix = matrix_claim(rt, alloc, log_size, 1, Some(9));
+        let claim = CommitmentOpening {
+            commitment: [0; 32],
+            matrices: vec![in alloc; matrix].expect(rt, "memory"),
+        };
+        claims.push(claim).expect(rt, "memory");
+    }
+    let mut input_openings = Vec::new(alloc);
     for _ in 0..case.num_openings {
         let opening = BatchMultiOpening {
             opened_values: Vec::new(alloc),
             opening_proof: Vec::new(alloc),
         };
-        inputs.push(opening).expect(rt, "memory");
+        input_openings.push(opening).expect(rt, "memory");
     }
-    let made = bare_proof(rt, alloc, claims, inputs);
-    let parameters = parameters_of(case);
+    let proof = FriProof {
+        batch_pow_witness: BabyBear::ZERO,
+        commit_phase_commits: Vec::new(alloc),
+        commit_pow_witnesses: Vec::new(alloc),
+        input_openings,
+        commit_phase_openings: Vec::new(alloc),
+        final_poly: vec![in alloc; BabyBear4::ZERO].expect(rt, "memory"),
+        query_pow_witness: BabyBear::ZERO,
+    };
+    Made {
+        proof,
+        claims,
+        start: 1,
+        last: challenger_after(1),
+    }
+}
+
+/// Whether the bare proof of that claim, or of none, is refused so by a new challenger.
+fn is_met(rt: &impl Abort, alloc: Global, case: &Case) -> bool {
+    let made = make_bare(rt, alloc, case);
+    let mut parameters = plain_parameters();
+    parameters.num_queries = case.num_queries;
+    parameters.log_blowup = case.log_blowup;
+    parameters.max_log_arity = case.max_log_arity;
+    parameters.log_final_poly_len = case.log_final_poly_len;
     is_answer(
+        rt,
         alloc,
         &parameters,
         0,

@@ -1,11 +1,19 @@
 //! An honest proof with each kind of its lists cut, lengthened or emptied, and the refusal's name.
 
-use crate::answers::{InputOpening, Left, Proof, RoundOpening, constant};
+use crate::answers::{Left, Proof, constant};
 use crate::cases::{ACCEPTED, Case, Changed, TWO_ROUNDS, is_met};
 use p3_field::{BabyBear, Field};
 use p3_fri_relation::proof::{BatchMultiOpening, CommitPhaseMultiStep};
 use std::alloc::Global;
 use std::process::Abort;
+
+/// Which of lists in a list.
+#[derive(Clone, Copy)]
+pub(crate) enum Level {
+    Outer,
+    /// The first of the inner ones.
+    Inner,
+}
 
 /// A list of a proof; of the rounds, commitments, queries and matrices that have one each, the
 /// first's.
@@ -15,16 +23,12 @@ pub(crate) enum List {
     Commitments,
     CommitWitnesses,
     FinalPoly,
-    SiblingRows,
-    SiblingRow,
-    RoundPaths,
-    RoundPath,
+    Siblings(Level),
+    RoundPaths(Level),
     Inputs,
     RowSets,
-    Rows,
-    Row,
-    InputPaths,
-    InputPath,
+    Rows(Level),
+    InputPaths(Level),
 }
 
 /// What becomes of a list.
@@ -47,66 +51,23 @@ fn changed<T: Drop>(rt: &impl Abort, list: &mut Vec<T>, change: Change, more: T)
     }
 }
 
-/// Changes a list of a round.
-fn change_round(
-    rt: &impl Abort,
-    alloc: Global,
-    opening: &mut RoundOpening,
-    list: List,
-    change: Change,
-) {
-    match list {
-        List::SiblingRows => changed(rt, &mut opening.sibling_values, change, Vec::new(alloc)),
-        List::RoundPaths => changed(rt, &mut opening.opening_proof, change, Vec::new(alloc)),
-        List::SiblingRow => {
-            if let Some(row) = opening.sibling_values.first_mut() {
-                changed(rt, row, change, constant(400));
-            }
-        },
-        _ => {
-            if let Some(path) = opening.opening_proof.first_mut() {
-                changed(rt, path, change, [0; 32]);
-            }
-        },
-    }
+/// The first of a list that isn't empty.
+fn first<'a, T>(rt: &impl Abort, list: &'a mut Vec<T>) -> &'a mut T {
+    list.get_mut(0).expect(rt, "an empty list")
 }
 
-/// Changes a list of a commitment's opening.
-fn change_input(
+/// Changes lists in a list.
+fn changed_at<T: Drop>(
     rt: &impl Abort,
     alloc: Global,
-    opening: &mut InputOpening,
-    list: List,
+    lists: &mut Vec<Vec<T>>,
+    level: Level,
     change: Change,
+    more: T,
 ) {
-    match list {
-        List::RowSets => changed(rt, &mut opening.opened_values, change, Vec::new(alloc)),
-        List::InputPaths => changed(rt, &mut opening.opening_proof, change, Vec::new(alloc)),
-        List::InputPath => {
-            if let Some(path) = opening.opening_proof.first_mut() {
-                changed(rt, path, change, [0; 32]);
-            }
-        },
-        _ => {
-            if let Some(rows) = opening.opened_values.first_mut() {
-                change_rows(rt, alloc, rows, list, change);
-            }
-        },
-    }
-}
-
-/// Changes rows, or the first of them.
-fn change_rows(
-    rt: &impl Abort,
-    alloc: Global,
-    rows: &mut Vec<Vec<BabyBear>>,
-    list: List,
-    change: Change,
-) {
-    if let List::Rows = list {
-        changed(rt, rows, change, Vec::new(alloc));
-    } else if let Some(row) = rows.first_mut() {
-        changed(rt, row, change, BabyBear::ONE);
+    match level {
+        Level::Outer => changed(rt, lists, change, Vec::new(alloc)),
+        Level::Inner => changed(rt, first(rt, lists), change, more),
     }
 }
 
@@ -131,6 +92,28 @@ pub(crate) fn change_list(
             changed(rt, &mut proof.commit_pow_witnesses, change, BabyBear::ZERO);
         },
         List::FinalPoly => changed(rt, &mut proof.final_poly, change, constant(0)),
+        List::Siblings(level) => {
+            let opening = first(rt, &mut proof.commit_phase_openings);
+            changed_at(
+                rt,
+                alloc,
+                &mut opening.sibling_values,
+                level,
+                change,
+                constant(400),
+            );
+        },
+        List::RoundPaths(level) => {
+            let opening = first(rt, &mut proof.commit_phase_openings);
+            changed_at(
+                rt,
+                alloc,
+                &mut opening.opening_proof,
+                level,
+                change,
+                [0; 32],
+            );
+        },
         List::Inputs => {
             let more = BatchMultiOpening {
                 opened_values: Vec::new(alloc),
@@ -138,15 +121,25 @@ pub(crate) fn change_list(
             };
             changed(rt, &mut proof.input_openings, change, more);
         },
-        List::SiblingRows | List::SiblingRow | List::RoundPaths | List::RoundPath => {
-            if let Some(opening) = proof.commit_phase_openings.first_mut() {
-                change_round(rt, alloc, opening, list, change);
-            }
+        List::RowSets => {
+            let opening = first(rt, &mut proof.input_openings);
+            changed(rt, &mut opening.opened_values, change, Vec::new(alloc));
         },
-        _ => {
-            if let Some(opening) = proof.input_openings.first_mut() {
-                change_input(rt, alloc, opening, list, change);
-            }
+        List::Rows(level) => {
+            let opening = first(rt, &mut proof.input_openings);
+            let rows = first(rt, &mut opening.opened_values);
+            changed_at(rt, alloc, rows, level, change, BabyBear::ONE);
+        },
+        List::InputPaths(level) => {
+            let opening = first(rt, &mut proof.input_openings);
+            changed_at(
+                rt,
+                alloc,
+                &mut opening.opening_proof,
+                level,
+                change,
+                [0; 32],
+            );
         },
     }
 }
@@ -187,7 +180,7 @@ static COUNTED: [(List, [&str; 3]); 8] = [
         ],
     ),
     (
-        List::SiblingRows,
+        List::Siblings(Level::Outer),
         [
             "CommitPhaseQueryCountMismatch { round: 0, expected: 2, got: 1 }",
             "CommitPhaseQueryCountMismatch { round: 0, expected: 2, got: 3 }",
@@ -195,7 +188,7 @@ static COUNTED: [(List, [&str; 3]); 8] = [
         ],
     ),
     (
-        List::SiblingRow,
+        List::Siblings(Level::Inner),
         [
             "SiblingValuesLengthMismatch { round: 0, expected: 3, got: 2 }",
             "SiblingValuesLengthMismatch { round: 0, expected: 3, got: 4 }",
@@ -223,19 +216,38 @@ static COUNTED: [(List, [&str; 3]); 8] = [
 /// The same of rows that are opened of one matrix each, and of lists that the schemes refuse.
 static OPENED: [(List, [&str; 3]); 6] = [
     (
-        List::Rows,
+        List::Rows(Level::Outer),
         [
             "BatchOpenedValuesCountMismatch { batch: 0, expected: 2, got: 1 }",
             "BatchOpenedValuesCountMismatch { batch: 0, expected: 2, got: 3 }",
             "BatchOpenedValuesCountMismatch { batch: 0, expected: 2, got: 0 }",
         ],
     ),
-    (List::Row, ["InputError(RowWidth)"; 3]),
-    (List::InputPaths, ["InputError(QueryCount)"; 3]),
-    (List::InputPath, ["InputError(PathLength)"; 3]),
-    (List::RoundPaths, ["CommitPhaseMmcsError(QueryCount)"; 3]),
-    (List::RoundPath, ["CommitPhaseMmcsError(PathLength)"; 3]),
+    (List::Rows(Level::Inner), ["InputError(RowWidth)"; 3]),
+    (
+        List::InputPaths(Level::Outer),
+        ["InputError(QueryCount)"; 3],
+    ),
+    (
+        List::InputPaths(Level::Inner),
+        ["InputError(PathLength)"; 3],
+    ),
+    (
+        List::RoundPaths(Level::Outer),
+        ["CommitPhaseMmcsError(QueryCount)"; 3],
+    ),
+    (
+        List::RoundPaths(Level::Inner),
+        ["CommitPhaseMmcsError(PathLength)"; 3],
+    ),
 ];
+
+/// Two rounds as they are, where the answer may leave the challenger anywhere.
+static UNCHANGED: Case = Case {
+    setting: TWO_ROUNDS,
+    left: Left::Anywhere,
+    ..ACCEPTED
+};
 
 /// Asserts that these are the answers to the changes of an honest proof of two rounds, where the
 /// verifier asks for so many bits.
@@ -248,12 +260,10 @@ fn assert_answers(
     for (list, texts) in cases {
         for (index, (change, text)) in CHANGES.iter().zip(texts).enumerate() {
             let case = Case {
-                setting: TWO_ROUNDS,
                 changed: Changed::List(*list, *change),
                 query_bits: bits,
                 expected: Some(*text),
-                left: Left::Anywhere,
-                ..ACCEPTED
+                ..UNCHANGED
             };
             assert!(rt; is_met(rt, alloc, &case), "{text}, change {index}");
         }
