@@ -23,7 +23,7 @@ returns-clause-sums g c =
     st wo
 
 pub add_opened_points-requires-clause-compressed : goal.add_opened_points-requires-clause-compressed
-add_opened_points-requires-clause-compressed g c = 
+add_opened_points-requires-clause-compressed g c =
     let all = rows c.args.opened.now.matrix.now in
     let f : List g.row.F.Denot → g.row.EF.Denot =
     λ row. val g.EF.Field.ops (map g.EF.ExtensionField.lift row) c.args.ladder.now.alpha in
