@@ -93,26 +93,12 @@ pub(crate) fn change_list(
         },
         List::FinalPoly => changed(rt, &mut proof.final_poly, change, constant(0)),
         List::Siblings(level) => {
-            let opening = first(rt, &mut proof.commit_phase_openings);
-            changed_at(
-                rt,
-                alloc,
-                &mut opening.sibling_values,
-                level,
-                change,
-                constant(400),
-            );
+            let rows = &mut first(rt, &mut proof.commit_phase_openings).sibling_values;
+            changed_at(rt, alloc, rows, level, change, constant(400));
         },
         List::RoundPaths(level) => {
-            let opening = first(rt, &mut proof.commit_phase_openings);
-            changed_at(
-                rt,
-                alloc,
-                &mut opening.opening_proof,
-                level,
-                change,
-                [0; 32],
-            );
+            let paths = &mut first(rt, &mut proof.commit_phase_openings).opening_proof;
+            changed_at(rt, alloc, paths, level, change, [0; 32]);
         },
         List::Inputs => {
             let more = BatchMultiOpening {
@@ -131,15 +117,8 @@ pub(crate) fn change_list(
             changed_at(rt, alloc, rows, level, change, BabyBear::ONE);
         },
         List::InputPaths(level) => {
-            let opening = first(rt, &mut proof.input_openings);
-            changed_at(
-                rt,
-                alloc,
-                &mut opening.opening_proof,
-                level,
-                change,
-                [0; 32],
-            );
+            let paths = &mut first(rt, &mut proof.input_openings).opening_proof;
+            changed_at(rt, alloc, paths, level, change, [0; 32]);
         },
     }
 }

@@ -1,7 +1,7 @@
 //! Proofs made and verified in both schemes. What is expected are the lines that
 //! `tools/relation/stark_cases.py` prints, a program apart.
 
-use crate::commits::is_committed_to;
+use crate::commits::outcome_of_commitment;
 use crate::instances::System;
 use crate::outcomes::{Change, Outcome, outcome_of};
 use crate::schemes::{Hiding, Plain, Tested};
@@ -153,7 +153,7 @@ static CASES: [(Asked, Outcome, Outcome); 21] = [
 /// What comes of it by a scheme.
 fn answer_of<P: Tested>(rt: &impl Abort, alloc: Global, asked: Asked) -> Outcome {
     match asked {
-        Asked::Commitment => is_committed_to::<P>(rt, alloc),
+        Asked::Commitment => outcome_of_commitment::<P>(rt, alloc),
         Asked::Proof(system, height, change) => outcome_of::<P>(rt, alloc, system, height, change),
     }
 }

@@ -35,7 +35,7 @@ fn trace_domain(hides: bool) -> Domain
 }
 
 /// What comes of committing to that trace.
-pub(crate) fn is_committed_to<P: Tested>(rt: &impl Abort, alloc: Global) -> Outcome {
+pub(crate) fn outcome_of_commitment<P: Tested>(rt: &impl Abort, alloc: Global) -> Outcome {
     let matrix = trace(rt, alloc);
     let evaluations = one(rt, alloc, (trace_domain(P::ZK), matrix));
     let mut scheme = P::made();

@@ -1,7 +1,7 @@
 use Rattle.std.proofs.Common.{◌≤◌, ◌+◌, ap, sym, subst, ◌∙◌}
 use Rattle.p3_uni_stark_verifier.specs.Chunks.{hiding_bits}
 use Rattle.p3_uni_stark_prover_tests.proofs.Columns.{small_hiding, small_word}
-use Rattle.p3_uni_stark_prover_tests.proofs.commits.is_committed_to.Goals as goal
+use Rattle.p3_uni_stark_prover_tests.proofs.commits.outcome_of_commitment.Goals as goal
 
 -- by the numbers there is room for the trace
 pub commit-requires : goal.commit-requires
