@@ -5,6 +5,7 @@ ghost use Rattle.fri_flat.specs.Asked.{asked, IsAsked};
 ghost use Rattle.fri_flat.specs.KeptAnswers.{BeginsProver, CommitsKept, AnswersAsked};
 ghost use Rattle.std.specs.Prelude.{◌≡◌, IfOk, IfErr};
 
+use crate::elements::element_matrices;
 use crate::failure::Failure;
 use crate::fault::{ReadError, WriteError};
 use crate::field::layout_of;
@@ -127,8 +128,15 @@ pub fn commit_kept<F: SchemeField>(
     ensures parameters { prover.new.parameters ≡ prover.old.parameters }
 {
     let layout = layout_of::<F>();
-    let batch = value_of::<Batch>(alloc, layout, bytes)?;
-    match prover.commit(alloc, &batch) {
+    let committed = match element_matrices::<F>(alloc, layout, bytes) {
+        Ok(matrices) => prover.commit_elements(alloc, matrices),
+        // what isn't read so is read by its numbers, which names the fault
+        Err(_) => {
+            let batch = value_of::<Batch>(alloc, layout, bytes)?;
+            prover.commit(alloc, &batch)
+        },
+    };
+    match committed {
         Ok(commitment) => Ok(commitment),
         Err(error) => Err(Failure::Request(error)),
     }

@@ -14,6 +14,7 @@
 #![tactic(auto)]
 
 mod calls;
+mod elements;
 mod failure;
 mod fault;
 mod field;

@@ -1,7 +1,7 @@
 //! Numbers and digests at the front of bytes. Memory is asked for only as far as bytes are there.
 
 ghost use Rattle.std.specs.Prelude.{◌≡◌, ◌<◌, ◌≤◌, ◌*◌, ◌++◌, IfOk, Ok, OnErr, length, vec_len};
-ghost use Rattle.std.specs.Prelude.{string_bytes, true};
+ghost use Rattle.std.specs.Prelude.{string_bytes, true, map};
 ghost use Rattle.std.specs.List.{All};
 ghost use Rattle.hex.specs.Hex.{decode_of};
 ghost use Rattle.fri_requests.specs.Bound.{IsContext};
@@ -12,6 +12,7 @@ ghost use Rattle.fri_flat.specs.Hiding.{index, IsIndex};
 
 use crate::fault::ReadError;
 use crate::layout::{Layout, Width};
+use p3_field::PrimeField64;
 use std::alloc::{AllocError, Global};
 
 /// The hex text of a digest.
@@ -147,6 +148,39 @@ impl<'a> Reader<'a> {
             numbers.push(self.number(layout)?)?;
         }
         Ok(numbers)
+    }
+
+    /// Reads an element of the prime field. Of a number that is none of an element nothing is read.
+    fn value<F: PrimeField64>(&mut self, layout: Layout) -> Result<F, ReadError>
+        ensures { IfOk result (λ x. self.old.left.now
+            ≡ number layout (F.canonical x) ++ self.new.left.now) }
+    {
+        let number = self.number(layout)?;
+        if number >= F::ORDER_U64 {
+            return Err(self.missing());
+        }
+        Ok(F::from_canonical(number))
+    }
+
+    /// Reads so many elements of the prime field.
+    pub fn values<F: PrimeField64>(
+        &mut self,
+        alloc: Global,
+        layout: Layout,
+        count: usize,
+    ) -> Result<Vec<F>, ReadError>
+        ensures form { IfOk result (λ v. self.old.left.now
+            ≡ numbers layout (map F.canonical v.items) ++ self.new.left.now) }
+        ensures count { IfOk result (λ v. vec_len v ≡ count) }
+    {
+        if !self.has_room(layout.width.bytes(), count) {
+            return Err(self.missing());
+        }
+        let mut values = Vec::with_capacity(alloc, count)?;
+        for _ in 0..count {
+            values.push(self.value(layout)?)?;
+        }
+        Ok(values)
     }
 
     /// Reads so many elements of the extension.

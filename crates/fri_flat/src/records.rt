@@ -61,7 +61,7 @@ impl Flat for Parameters {
 }
 
 /// The number of values in so many columns of `2^log_size`. More than 64 bits count there can't be.
-fn value_count(width: usize, log_size: usize) -> Option<usize>
+pub(crate) fn value_count(width: usize, log_size: usize) -> Option<usize>
     ensures { IfSome result (λ count. count ≡ width * 2 ^ log_size) }
 {
     if width == 0 {

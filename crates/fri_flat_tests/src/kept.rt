@@ -22,10 +22,13 @@ const OTHERS: [[u32; 10]; 6] = [
     [1, 1, 1, 1, 1, 0, 5, 0, 0, 0],
 ];
 
-/// Batches that are refused: the column's without its point's last number, and on a shift of zero.
-const REFUSED: [&[u32]; 2] = [
+/// Batches that are refused: the column's without its point's last number and with one more, on a
+/// shift of zero, and with a value that is no element.
+const REFUSED: [&[u32]; 4] = [
     &[1, 1, 1, 1, 1, 1, 3, 5, 0, 0],
+    &[1, 1, 1, 1, 1, 1, 3, 5, 0, 0, 0, 0],
     &[1, 0, 1, 1, 1, 1, 3, 5, 0, 0, 0],
+    &[1, 1, 1, 1, 1, 2013265921, 3, 5, 0, 0, 0],
 ];
 
 /// Whether a prover commits to a batch of these numbers, by the known commitment.

@@ -3,6 +3,7 @@ pub mod Bound
 pub mod Claims
 pub mod Commitments
 pub mod Committed
+pub mod Elements
 pub mod Keeping
 pub mod Lent
 pub mod Matrices

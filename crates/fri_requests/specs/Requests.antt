@@ -20,6 +20,7 @@ use Rattle.p3_fri_openings.specs.Rounds.{HasCoset}
 use Rattle.p3_fri_openings.specs.Held.{held_of, HoldsWords}
 use Rattle.p3_fri_opening_prover.specs.Setting.{OpeningSetting}
 use Rattle.p3_fri_two_adic.specs.Refusals.{OpenRefusal}
+use Rattle.fri_records.specs.declared.records.Domain.{Domain}
 use Rattle.fri_records.specs.declared.records.Matrix.{Matrix}
 use Rattle.fri_records.specs.declared.records.Batch.{Batch}
 use Rattle.fri_records.specs.declared.records.Request.{Request}
@@ -33,15 +34,21 @@ use Rattle.fri_requests.specs.Matrices.{held_listed}
 use Rattle.fri_requests.specs.Openings.{request_for}
 use Rattle.fri_requests.specs.Preprocessing.{NamesPreprocessed}
 
--- a matrix over a field of this order and two-adicity, on a coset with room for the extension of
--- the domain on which it is committed to: some column, and for each column and point of the coset
--- an element
+-- a matrix of so many columns and values on a coset over a field of this order and two-adicity, with
+-- room for the extension of the domain on which it is committed to: some column, and for each column
+-- and point of the coset a value
+pub record HasShape (order two_adicity : ℕ) (hides : Bool) (log_blowup : ℕ) (domain : Domain)
+    (width count : ℕ) : Type 0 where
+  pub coset : IsCosetBelow order two_adicity domain.shift domain.log_size
+  pub room : (domain_committed hides domain).log_size + log_blowup ≤ two_adicity
+  pub some_column : 0 < width
+  pub whole : count ≡ width * 2 ^ domain.log_size
+
+-- a matrix of such a shape whose values are elements
 pub record IsMatrixBelow (order two_adicity : ℕ) (hides : Bool) (log_blowup : ℕ) (m : Matrix)
     : Type 0 where
-  pub domain : IsCosetBelow order two_adicity m.domain.shift m.domain.log_size
-  pub room : (domain_committed hides m.domain).log_size + log_blowup ≤ two_adicity
-  pub some_column : 0 < m.width
-  pub count : length m.values.items ≡ m.width * 2 ^ m.domain.log_size
+  pub shape :
+      HasShape order two_adicity hides log_blowup m.domain m.width (length m.values.items)
   pub elements : All (λ number. number < order) m.values.items
 
 -- there is some point to open the matrix at, and each is one

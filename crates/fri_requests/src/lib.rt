@@ -34,6 +34,7 @@ mod verification;
 
 pub use crate::committed::commit;
 pub use crate::masking::Masking;
+pub use crate::matrices::ElementMatrix;
 pub use crate::opening::{Opening, open};
 pub use crate::prover::Prover;
 pub use crate::statement::challenge;

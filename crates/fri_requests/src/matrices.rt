@@ -1,7 +1,7 @@
 //! The matrices of a request, and the points at which they are to be opened.
 
 ghost use Rattle.std.specs.Prelude.{◌≡◌, ◌≢◌, ◌↔◌, ◌+◌, ◌*◌, ◌^◌, ◌<◌, ◌≤◌, All, IsTrue, IfOk};
-ghost use Rattle.std.specs.Prelude.{ℕ, [], length, map, vec_len, IfErr, IsNone, IfSome};
+ghost use Rattle.std.specs.Prelude.{ℕ, [], length, map, vec_len, false, IfErr, IsNone, IfSome};
 ghost use Rattle.algebra.specs.Nested.{lists};
 ghost use Rattle.p3_matrix.specs.Matrix.{rows, matrix_width};
 ghost use Rattle.p3_matrix.specs.Rows.{rows_of};
@@ -9,10 +9,11 @@ ghost use Rattle.fri_schemes.specs.Rows.{log_committed, FitsRows};
 ghost use Rattle.algebra.specs.Field.{multiple};
 ghost use Rattle.fri_requests.specs.Committed.{IsListedBy, AreListedBy};
 ghost use Rattle.fri_records.specs.Failures.{IfMalformed};
-ghost use Rattle.fri_requests.specs.Requests.{IsMatrixBelow, HasPointsBy};
+ghost use Rattle.fri_requests.specs.Elements.{batch_of, record_of};
+ghost use Rattle.fri_requests.specs.Requests.{HasShape, HasPointsBy, IsMatrixBelow};
 
 use crate::elements::{Numbered, coset, elements};
-use fri_records::{Batch, Fault, Matrix, Place, ReadError};
+use fri_records::{Batch, Domain, Fault, Matrix, Misfit, Place, ReadError};
 use fri_schemes::Coset;
 use p3_field::{PrimeField64, TwoAdicField, TwoAdicMultiplicativeCoset};
 use p3_matrix::RowMajorMatrix;
@@ -20,6 +21,18 @@ use std::alloc::Global;
 
 /// A matrix on its domain.
 pub(crate) type Evaluations<F> = (Coset<F>, RowMajorMatrix<F>);
+
+/// What a `Matrix` lists, by elements in place of their numbers.
+#[derive(Drop)]
+pub struct ElementMatrix<F: Copy> {
+    pub domain: Domain,
+    /// The number of columns.
+    pub width: usize,
+    /// Row by row, a row for each point of the domain.
+    pub values: Vec<F>,
+    /// Each by its coefficients' numbers.
+    pub points: Vec<Vec<u64>>,
+}
 
 /// Whether `count` is the product of the width and `2^log_size`.
 fn is_count(count: usize, width: usize, log_size: usize) -> bool
@@ -75,6 +88,36 @@ fn domain_committed<F: TwoAdicField>(domain: Coset<F>, hides: bool) -> Coset<F>
     }
 }
 
+/// The coset on which a matrix of this shape is listed, with room for its extension.
+fn coset_of<F: PrimeField64 + TwoAdicField>(
+    domain: &Domain,
+    width: usize,
+    count: usize,
+    log_blowup: usize,
+    hides: bool,
+    place: Place,
+) -> Result<Coset<F>, Misfit>
+    requires blowup { log_blowup ≤ F.TWO_ADICITY }
+    ensures shift { IfOk result (λ c. F.canonical c.shift ≡ domain.now.shift) }
+    ensures size { IfOk result (λ c. c.log_size ≡ domain.now.log_size) }
+    ensures fits { IfOk result (λ _.
+        HasShape F.ORDER_U64 F.TWO_ADICITY hides log_blowup domain.now width count) }
+    ensures refused { IfErr result (λ _.
+        ¬ HasShape F.ORDER_U64 F.TWO_ADICITY hides log_blowup domain.now width count) }
+{
+    let Some(most) = room_of::<F>(log_blowup, hides) else {
+        return Err(place.lacks(Fault::LogSize));
+    };
+    let coset = coset::<F>(domain, most, place)?;
+    if width == 0 {
+        return Err(place.lacks(Fault::Width));
+    }
+    if !is_count(count, width, coset.log_size()) {
+        return Err(place.lacks(Fault::Values));
+    }
+    Ok(coset)
+}
+
 /// A matrix on the domain on which it is committed to, with room for its extension.
 fn evaluations<F: PrimeField64 + TwoAdicField>(
     alloc: Global,
@@ -92,19 +135,37 @@ fn evaluations<F: PrimeField64 + TwoAdicField>(
     ensures refused { IfErr result (IfMalformed
         (¬ IsMatrixBelow F.ORDER_U64 F.TWO_ADICITY hides log_blowup matrix.now)) }
 {
-    let Some(most) = room_of::<F>(log_blowup, hides) else {
-        return Err(place.lacks(Fault::LogSize).into());
-    };
-    let domain = coset::<F>(&matrix.domain, most, place)?;
-    if matrix.width == 0 {
-        return Err(place.lacks(Fault::Width).into());
-    }
-    if !is_count(matrix.values.len(), matrix.width, domain.log_size()) {
-        return Err(place.lacks(Fault::Values).into());
-    }
+    let (width, count) = (matrix.width, matrix.values.len());
+    let domain = coset_of::<F>(&matrix.domain, width, count, log_blowup, hides, place)?;
     let values = elements(alloc, &matrix.values, place)?;
-    let rows = matrix_of(values, matrix.width, domain.log_size());
+    let rows = matrix_of(values, width, domain.log_size());
     Ok((domain_committed(domain, hides), rows))
+}
+
+/// A matrix of elements, on the domain on which it is committed to as it is.
+fn evaluations_of<F: PrimeField64 + TwoAdicField>(
+    matrix: ElementMatrix<F>,
+    log_blowup: usize,
+    place: Place,
+) -> Result<Evaluations<F>, Misfit>
+    requires blowup { log_blowup ≤ F.TWO_ADICITY }
+    ensures fits { IfOk result (λ e. FitsRows F.TWO_ADICITY false log_blowup e.0.log_size e.1) }
+    ensures listed { IfOk result (λ e. IsListedBy (λ number. multiple F.ops number)
+        (λ d. F.canonical d.shift) (λ d. d.log_size) false e (record_of F.canonical matrix)) }
+    ensures well_formed { IfOk result (λ _. IsMatrixBelow F.ORDER_U64 F.TWO_ADICITY false
+        log_blowup (record_of F.canonical matrix)) }
+    ensures refused { IfErr result (λ _. ¬ IsMatrixBelow F.ORDER_U64 F.TWO_ADICITY false
+        log_blowup (record_of F.canonical matrix)) }
+{
+    let ElementMatrix {
+        domain,
+        width,
+        values,
+        points: _points,
+    } = matrix;
+    let coset = coset_of::<F>(&domain, width, values.len(), log_blowup, false, place)?;
+    let rows = matrix_of(values, width, coset.log_size());
+    Ok((coset, rows))
 }
 
 /// The matrices of the commitment at this place.
@@ -132,6 +193,34 @@ pub(crate) fn batch_evaluations<F: PrimeField64 + TwoAdicField>(
             ..place
         };
         all.push(evaluations(alloc, matrix, log_blowup, hides, place)?)?;
+    }
+    Ok(all)
+}
+
+/// The matrices of elements of a commitment.
+pub(crate) fn evaluations_of_all<F: PrimeField64 + TwoAdicField>(
+    alloc: Global,
+    matrices: Vec<ElementMatrix<F>>,
+    log_blowup: usize,
+) -> Result<Vec<Evaluations<F>>, ReadError>
+    requires blowup { log_blowup ≤ F.TWO_ADICITY }
+    ensures fit { IfOk result (λ all.
+        All (λ e. FitsRows F.TWO_ADICITY false log_blowup e.0.log_size e.1) all.items) }
+    ensures listed { IfOk result (λ all. AreListedBy (λ number. multiple F.ops number)
+        (λ d. F.canonical d.shift) (λ d. d.log_size) false all.items
+        (batch_of F.canonical matrices)) }
+    ensures well_formed { IfOk result (λ _. All (IsMatrixBelow F.ORDER_U64 F.TWO_ADICITY false
+        log_blowup) (batch_of F.canonical matrices).matrices.items) }
+    ensures refused { IfErr result (IfMalformed (¬ All (IsMatrixBelow F.ORDER_U64 F.TWO_ADICITY
+        false log_blowup) (batch_of F.canonical matrices).matrices.items)) }
+{
+    let mut all = Vec::with_capacity(alloc, matrices.len())?;
+    for matrix in matrices {
+        let place = Place {
+            matrix: Some(all.len()),
+            ..Place::NONE
+        };
+        all.push(evaluations_of(matrix, log_blowup, place)?)?;
     }
     Ok(all)
 }

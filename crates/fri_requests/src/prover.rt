@@ -2,7 +2,7 @@
 //! twice.
 
 ghost use Rattle.std.specs.Prelude.{◌≡◌, ◌≢◌, ◌++◌, ◌∷◌, [], IfOk, IfErr};
-ghost use Rattle.std.specs.Prelude.{None, List, Ok, map};
+ghost use Rattle.std.specs.Prelude.{None, List, Ok, All, map, false};
 ghost use Rattle.std.specs.List.{AllZip};
 ghost use Rattle.algebra.specs.Nested.{nested};
 ghost use Rattle.p3_pcs.specs.Claims.{claim};
@@ -12,11 +12,13 @@ ghost use Rattle.p3_fri_folding.specs.declared.error.FriProverError.TheVariants.
 ghost use Rattle.p3_fri_relation.specs.Views.{parameters_of, proof_of};
 ghost use Rattle.p3_fri_two_adic.specs.Ranges.{InProverRange};
 ghost use Rattle.fri_records.specs.Failures.{MatchRequestError};
-ghost use Rattle.fri_records.specs.Records.{AreProvers};
+ghost use Rattle.fri_records.specs.Records.{AreProvers, parameters_in};
+ghost use Rattle.fri_schemes.specs.Rows.{FitsRows};
 ghost use Rattle.fri_requests.specs.Accepted.{IsAccepted};
 ghost use Rattle.fri_requests.specs.Claims.{batch_listed};
 ghost use Rattle.fri_requests.specs.Commitments.{IsCommitmentTo};
-ghost use Rattle.fri_requests.specs.Committed.{KeepsRead, RefusesMatrices};
+ghost use Rattle.fri_requests.specs.Committed.{KeepsRead, Lists, RefusesMatrices};
+ghost use Rattle.fri_requests.specs.Elements.{batch_of};
 ghost use Rattle.fri_requests.specs.Keeping.{HasCommitted, CommitsBatch, batches_at, CanAsk};
 ghost use Rattle.fri_requests.specs.Keeping.{RefusesAsked};
 ghost use Rattle.fri_requests.specs.Openings.{IsOpened, requests_for};
@@ -25,17 +27,17 @@ ghost use Rattle.fri_requests.specs.Reopening.{OpensAsked};
 use crate::claims::Claims;
 use crate::committed::{Committed, commit_batch};
 use crate::lending::{spares, swap_data};
-use crate::matrices::batch_evaluations;
+use crate::matrices::{ElementMatrix, batch_evaluations, evaluations_of_all};
 use crate::naming::{Data, are_named, read_asked};
 use crate::opening::{Opening, answered, open_requests, requests_of};
 use crate::plain::Proof;
 use crate::prepared::known_of;
 use crate::reading::{ListedBatch, have_matrix};
 use crate::refusal::refusal;
-use fri_records::{Batch, Fault, Parameters, Place, RequestError, prover_parameters};
+use fri_records::{Batch, Fault, Parameters, Place, RequestError, Rounds, prover_parameters};
 use fri_schemes::{Coset, Inputs, MadeScheme, PlainScheme, SchemeField, SchemeParts};
 use p3_challenger_sha256::Sha256Challenger;
-use p3_fri_folding::FriProverError;
+use p3_fri_folding::{FriParameters, FriProverError};
 use p3_fri_openings::are_openable;
 use p3_mmcs::Sha256Mmcs;
 use p3_pcs::{KnownCommitment, OpeningRequest, Pcs};
@@ -240,6 +242,43 @@ impl<F: SchemeField> Prover<F> {
         self.parameters
     }
 
+    /// Commits to what a batch lists, and keeps what opens it.
+    fn keep(
+        &mut self,
+        alloc: Global,
+        fri: FriParameters<Rounds<F::Extension>>,
+        read: ListedBatch<F, Coset<F>>,
+    ) -> Result<[u8; 32], RequestError<FriProverError>>
+        requires parameters { parameters_of fri ≡ parameters_in self.old.parameters }
+        requires fit { All (λ e. FitsRows F.TWO_ADICITY false self.old.parameters.log_blowup
+            e.0.log_size e.1) read.evaluations.items }
+        ensures committed { (batch : Batch) → Lists ⟦<F as SchemeParts>⟧.fields false
+            (λ d. d.shift) (λ d. d.log_size) read batch
+            → IfOk result (λ commitment. IsCommitmentTo ⟦<F as SchemeParts>⟧.fields
+            self.old.parameters.log_blowup commitment batch) }
+        ensures kept { (batches : List Batch) (batch : Batch)
+            → HasCommitted ⟦<F as SchemeParts>⟧.fields F.LEN (λ d. d.shift) (λ d. d.log_size)
+            self.old.parameters self.old.committed.items batches
+            → Lists ⟦<F as SchemeParts>⟧.fields false (λ d. d.shift) (λ d. d.log_size) read batch
+            → IfOk result (λ _. HasCommitted ⟦<F as SchemeParts>⟧.fields F.LEN (λ d. d.shift)
+            (λ d. d.log_size) self.new.parameters self.new.committed.items
+            (batches ++ batch ∷ [])) }
+        ensures commitments { IfOk result (λ commitment.
+            map (λ c. c.commitment) self.new.committed.items
+            ≡ map (λ c. c.commitment) self.old.committed.items ++ commitment ∷ []) }
+        ensures parameters { self.new.parameters ≡ self.old.parameters }
+        ensures unchanged { IfErr result (λ _.
+            self.new.committed.items ≡ self.old.committed.items) }
+        // the scheme itself refuses for want of memory alone
+        ensures refused { IfErr result (MatchRequestError ⊥ (λ _. ⊥)) }
+    {
+        let mut scheme = PlainScheme::<F>::made(fri, 0, [0; 32]);
+        let committed = commit_one::<F, PlainScheme<F>>(alloc, &mut scheme, read)?;
+        let commitment = committed.commitment;
+        self.committed.push(committed)?;
+        Ok(commitment)
+    }
+
     /// Commits to a batch and keeps what opens it; answers the commitment, 32 bytes. The batch's
     /// points aren't read. What is refused isn't kept.
     pub fn commit(
@@ -262,7 +301,6 @@ impl<F: SchemeField> Prover<F> {
         ensures parameters { self.new.parameters ≡ self.old.parameters }
         ensures unchanged { IfErr result (λ _.
             self.new.committed.items ≡ self.old.committed.items) }
-        // the scheme itself refuses for want of memory alone
         ensures refused { IfErr result (MatchRequestError
             (¬ CommitsBatch ⟦<F as SchemeParts>⟧.fields self.old.parameters batch.now) (λ _. ⊥)) }
     {
@@ -276,11 +314,44 @@ impl<F: SchemeField> Prover<F> {
             evaluations,
             preprocessed: batch.preprocessed,
         };
-        let mut scheme = PlainScheme::<F>::made(fri, 0, [0; 32]);
-        let committed = commit_one::<F, PlainScheme<F>>(alloc, &mut scheme, read)?;
-        let commitment = committed.commitment;
-        self.committed.push(committed)?;
-        Ok(commitment)
+        self.keep(alloc, fri, read)
+    }
+
+    /// The same for matrices of elements, as the batch that lists their numbers.
+    pub fn commit_elements(
+        &mut self,
+        alloc: Global,
+        matrices: Vec<ElementMatrix<F>>,
+    ) -> Result<[u8; 32], RequestError<FriProverError>>
+        ensures committed { IfOk result (λ commitment.
+            IsCommitmentTo ⟦<F as SchemeParts>⟧.fields self.old.parameters.log_blowup commitment
+            (batch_of F.canonical matrices)) }
+        ensures kept { (batches : List Batch) → HasCommitted ⟦<F as SchemeParts>⟧.fields
+            F.LEN (λ d. d.shift) (λ d. d.log_size) self.old.parameters self.old.committed.items
+            batches
+            → IfOk result (λ _. HasCommitted ⟦<F as SchemeParts>⟧.fields F.LEN (λ d. d.shift)
+            (λ d. d.log_size) self.new.parameters self.new.committed.items
+            (batches ++ batch_of F.canonical matrices ∷ [])) }
+        ensures commitments { IfOk result (λ commitment.
+            map (λ c. c.commitment) self.new.committed.items
+            ≡ map (λ c. c.commitment) self.old.committed.items ++ commitment ∷ []) }
+        ensures parameters { self.new.parameters ≡ self.old.parameters }
+        ensures unchanged { IfErr result (λ _.
+            self.new.committed.items ≡ self.old.committed.items) }
+        ensures refused { IfErr result (MatchRequestError (¬ CommitsBatch
+            ⟦<F as SchemeParts>⟧.fields self.old.parameters (batch_of F.canonical matrices))
+            (λ _. ⊥)) }
+    {
+        let fri = match prover_parameters::<F, F::Extension>(&self.parameters) {
+            Ok(fri) => fri,
+            Err(misfit) => return Err(RequestError::Malformed(misfit)),
+        };
+        let evaluations = evaluations_of_all(alloc, matrices, self.parameters.log_blowup)?;
+        let read = ListedBatch {
+            evaluations,
+            preprocessed: false,
+        };
+        self.keep(alloc, fri, read)
     }
 
     /// Opens all that was committed to, each matrix at the points of the record in its place. A

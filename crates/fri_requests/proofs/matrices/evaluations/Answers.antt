@@ -1,7 +1,8 @@
 use Rattle.std.proofs.lemmas.Result.{IfOk-from_err}
-use Rattle.std.proofs.Common.{◌*◌, ◌^◌, ◌<◌, All, map, arith, subst, sym, ap, ap₂, ◌∙◌}
+use Rattle.std.proofs.Common.{◌<◌, All, map, subst, sym, ap, ap₂, ◌∙◌}
 use Rattle.p3_matrix.specs.Rows.{rows_of}
 use Rattle.fri_requests.specs.Committed.{domain_by}
+use Rattle.fri_requests.specs.Requests.{HasShape}
 use Rattle.algebra.specs.Field.{multiple}
 use Rattle.fri_schemes.specs.Rows.{log_committed}
 use Rattle.fri_requests.proofs.Canonical.{HaveElements, every_is_element, every_element_again}
@@ -28,22 +29,13 @@ returns-clause-listed g c = record {
 }
 
 pub returns-clause-well_formed : goal.returns-clause-well_formed
-returns-clause-well_formed g c =
-    let coset = c.in_ok-domain.ensures.well_formed in
-    record {
-      domain = record {
-        size = omega (arith, coset.size, c.in-Some.ensures.low);
-        nonzero = coset.nonzero;
-        element = coset.element;
-      };
-      room = (c.in-Some.ensures.some c.args.matrix.now.domain.log_size).0 coset.size;
-      some_column = omega (arith, c.if-matrix-eq0.false);
-      count = sym c.args.matrix.now.values.ok.0 ∙ sym c.len.ensures
-          ∙ c.is_count.ensures.0 c.if-not-is_count.false
-          ∙ ap (λ k. c.args.matrix.now.width * 2 ^ k) (c.log_size.ensures ∙ c.in_ok-domain.ensures.size);
-      elements = subst (λ ns. All (λ n. n < g.F.PrimeField64.ORDER_U64) ns) (c.in_ok-values.ensures.numbers ∙ c.deref.ensures.value)
-          (every_is_element g.F.Field.ops g.F.PrimeField64.ORDER_U64 g.F.PrimeField64.canonical (numbered g) c.in_ok-values.values.items);
-    }
+returns-clause-well_formed g c = record {
+  shape = subst (λ n. HasShape g.F.PrimeField64.ORDER_U64 g.F.TwoAdicField.TWO_ADICITY c.args.hides c.args.log_blowup
+      c.args.matrix.now.domain c.args.matrix.now.width n) (c.len-count.ensures ∙ c.args.matrix.now.values.ok.0)
+      c.in_ok-domain.ensures.fits;
+  elements = subst (λ ns. All (λ n. n < g.F.PrimeField64.ORDER_U64) ns) (c.in_ok-values.ensures.numbers ∙ c.deref.ensures.value)
+      (every_is_element g.F.Field.ops g.F.PrimeField64.ORDER_U64 g.F.PrimeField64.canonical (numbered g) c.in_ok-values.values.items);
+}
 
 -- where nothing is answered nothing is said of the answer
 pub returns-in_err-domain-clause-fits : goal.returns-in_err-domain-clause-fits

@@ -1,72 +1,16 @@
 use Rattle.std.proofs.lemmas.Result.{IfOk-from_err}
-use Rattle.std.proofs.Common.{◌++◌, [], ◌∷◌, map, refl, sym, subst, ap, ◌∙◌}
-use Rattle.std.specs.List.{AllZip}
-use Rattle.std.proofs.lemmas.List.{map-append}
-use Rattle.algebra.proofs.Lists.{all_zip-push}
-use Rattle.p3_fri_relation.specs.Setting as setting
-use Rattle.fri_requests.specs.Keeping.{IsKept}
-use Rattle.fri_statement.specs.Setting.{SchemeFields}
-use Rattle.fri_requests.proofs.Fields.{fields_of}
-use Rattle.fri_requests.proofs.Listed.{HaveNumbers}
-use Rattle.fri_requests.proofs.PlainRules.{is_kept}
-use Rattle.fri_requests.proofs.Reopened.{is_commitment}
-use Rattle.fri_requests.proofs.prover.Prover.commit.Given.{Over}
-use Rattle.fri_requests.proofs.Failed.{request_wants}
+use Rattle.std.proofs.Common.{refl}
 use Rattle.fri_requests.proofs.prover.Prover.commit.Goals as goal
-use Rattle.fri_requests.proofs.prover.Prover.commit.Goals.{In_ok-committed}
-
-abbrev fields : (g : Over) → SchemeFields g.row.F.Denot g.row.F-Extension.Denot
-fields g = fields_of g.F.Field g.F.PrimeField64 g.F.TwoAdicField g.F.ElementBytes
-    g.F.Extension.Field g.F.Extension.ExtensionField g.F.Extension.ElementBytes
-
-numbered : (g : Over) → HaveNumbers (fields g)
-numbered g = record {
-  below = g.met.F.PrimeField64.canonical_below;
-  again = g.met.F.PrimeField64.multiple_canonical;
-  numbers = g.met.F.PrimeField64.canonical_multiple;
-  count = g.met.F.Extension.ExtensionField.dimension_law;
-  same = g.met.F.Extension.ExtensionField.coefficients_injective;
-  made = g.met.F.Extension.ExtensionField.of_coefficients_law;
-}
-
--- what is kept of the batch
-kept : (g : Over) (c : In_ok-committed g) → IsKept (fields g) g.F.ElementBytes.LEN (λ d. d.shift) (λ d. d.log_size) c.args.self.now.parameters.log_blowup
-    c.in_ok-committed.committed c.args.batch.now
-kept g c =
-    subst (λ b. IsKept (fields g) g.F.ElementBytes.LEN (λ d. d.shift) (λ d. d.log_size) b c.in_ok-committed.committed c.args.batch.now)
-    (ap (λ s. s.fri.log_blowup) c.in_ok-committed.ensures.kept
-    ∙ ap (λ (p : setting.Parameters). p.log_blowup) (c.made-scheme.ensures ∙ c.in-Ok.ensures.parameters))
-    (is_kept (fields g) (numbered g) g.F.ElementBytes.LEN _ _ (λ d. d.shift) (λ d. d.log_size) c.commit_one.new.scheme.fri.log_blowup
-    (record {
-      extends = λ m e x. x;
-      honest = λ d x. x;
-      openable = λ d x. x;
-      preprocessed = λ d x. x;
-      polynomials = λ d. refl;
-      commitments = λ d. refl;
-    })
-    c.in_ok-committed.committed _ c.args.batch.now c.in_ok-committed.ensures.committed
-    (record { evaluations = c.in_ok-evaluations.ensures.listed; preprocessed = refl }))
 
 pub returns-clause-committed : goal.returns-clause-committed
 returns-clause-committed g c =
-    is_commitment (fields g) (numbered g) g.F.ElementBytes.LEN (λ d. d.shift) (λ d. d.log_size) c.args.self.now.parameters.log_blowup c.in_ok-committed.committed
-    c.args.batch.now (kept g (goal.at.returns-clause-committed g c).In_ok-committed)
+    c.keep.ensures.committed c.args.batch.now
+    (record { evaluations = c.in_ok-evaluations.ensures.listed; preprocessed = refl })
 
 pub returns-clause-kept : goal.returns-clause-kept
-returns-clause-kept g c = λ batches has. record {
-  provers = has.provers;
-  kept = subst (λ cs. AllZip (IsKept (fields g) g.F.ElementBytes.LEN (λ d. d.shift) (λ d. d.log_size) c.args.self.now.parameters.log_blowup) cs
-      (batches ++ c.args.batch.now ∷ [])) (sym c.in_ok-push.ensures.items)
-      (all_zip-push (IsKept (fields g) g.F.ElementBytes.LEN (λ d. d.shift) (λ d. d.log_size) c.args.self.now.parameters.log_blowup)
-      c.args.self.now.committed.items batches c.in_ok-committed.committed c.args.batch.now has.kept
-      (kept g (goal.at.returns-clause-kept g c).In_ok-committed));
-}
-
-pub returns-clause-commitments : goal.returns-clause-commitments
-returns-clause-commitments g c =
-    ap (λ cs. map (λ k. k.commitment) cs) c.in_ok-push.ensures.items
-    ∙ map-append (λ k. k.commitment) c.args.self.now.committed.items (c.in_ok-committed.committed ∷ [])
+returns-clause-kept g c = λ batches has.
+    c.keep.ensures.kept batches c.args.batch.now has
+    (record { evaluations = c.in_ok-evaluations.ensures.listed; preprocessed = refl })
 
 -- where nothing is answered nothing is said of the answer
 pub returns-in_err-evaluations-clause-committed : goal.returns-in_err-evaluations-clause-committed
@@ -77,24 +21,3 @@ returns-in_err-evaluations-clause-kept g c = λ _ _. IfOk-from_err c.from_residu
 
 pub returns-in_err-evaluations-clause-commitments : goal.returns-in_err-evaluations-clause-commitments
 returns-in_err-evaluations-clause-commitments g c = IfOk-from_err c.from_residual.result _ c.from_residual.ensures.0
-
-pub returns-in_err-committed-clause-committed : goal.returns-in_err-committed-clause-committed
-returns-in_err-committed-clause-committed g c = IfOk-from_err c.from_residual-in_err-committed.result _ c.from_residual-in_err-committed.ensures.0
-
-pub returns-in_err-committed-clause-kept : goal.returns-in_err-committed-clause-kept
-returns-in_err-committed-clause-kept g c = λ _ _. IfOk-from_err c.from_residual-in_err-committed.result _ c.from_residual-in_err-committed.ensures.0
-
-pub returns-in_err-committed-clause-commitments : goal.returns-in_err-committed-clause-commitments
-returns-in_err-committed-clause-commitments g c = IfOk-from_err c.from_residual-in_err-committed.result _ c.from_residual-in_err-committed.ensures.0
-
-pub returns-in_err-push-clause-committed : goal.returns-in_err-push-clause-committed
-returns-in_err-push-clause-committed g c = IfOk-from_err c.from_residual-in_err-push.result _ c.from_residual-in_err-push.ensures.0
-
-pub returns-in_err-push-clause-kept : goal.returns-in_err-push-clause-kept
-returns-in_err-push-clause-kept g c = λ _ _. IfOk-from_err c.from_residual-in_err-push.result _ c.from_residual-in_err-push.ensures.0
-
-pub returns-in_err-push-clause-commitments : goal.returns-in_err-push-clause-commitments
-returns-in_err-push-clause-commitments g c = IfOk-from_err c.from_residual-in_err-push.result _ c.from_residual-in_err-push.ensures.0
-
-pub returns-in_err-push-clause-refused : goal.returns-in_err-push-clause-refused
-returns-in_err-push-clause-refused g c = request_wants c.from_residual-in_err-push.result _ _ c.from_residual-in_err-push.ensures.1
