@@ -1,5 +1,9 @@
 -- Parts one after another.
-use Rattle.std.proofs.Common.{◌≡◌, ℕ, List, ◌++◌, ap, sym, ◌∙◌, append_assoc}
+use Rattle.std.proofs.Common.{◌≡◌, ℕ, List, [], ◌∷◌, ◌++◌, map, ap, ap₂, sym, ◌∙◌, append_assoc}
+use Rattle.std.specs.List.{flat_map}
+use Rattle.std.proofs.lemmas.List.{append-nil, flat_map_more}
+use Rattle.std.proofs.lemmas.List.Folds.{flat_map-map}
+use Rattle.fri_flat.specs.Flat.{word}
 
 -- three parts that were added one by one
 pub three_parts : (bytes first second third one two three : List ℕ) → one ≡ bytes ++ first
@@ -35,3 +39,22 @@ pub read_next : (bytes front part after rest : List ℕ) → bytes ≡ front ++ 
     → after ≡ part ++ rest → bytes ≡ front ++ part ++ rest
 read_next bytes front part after rest a b =
     a ∙ ap (λ (x : List ℕ). front ++ x) b ∙ sym (append_assoc front part rest)
+
+-- one entry more of a list that is read
+pub entry_read : {A : Type 0} (form : A → List ℕ) (bytes front after rest : List ℕ) (xs news : List A) (x : A)
+    → bytes ≡ front ++ flat_map form xs ++ after → after ≡ form x ++ rest → news ≡ xs ++ x ∷ []
+    → bytes ≡ front ++ flat_map form news ++ rest
+entry_read form bytes front after rest xs news x a b pushed =
+    a ∙ ap (λ (t : List ℕ). front ++ flat_map form xs ++ t) b
+    ∙ sym (append_assoc (front ++ flat_map form xs) (form x) rest)
+    ∙ ap (λ (t : List ℕ). t ++ rest)
+    (flat_map_more form front xs x ∙ ap (λ ys. front ++ flat_map form ys) (sym pushed))
+
+-- all of it, by the images of what was read
+pub list_read : {A B : Type 0} (form : B → List ℕ) (g : A → B) (bytes left : List ℕ) (count len : ℕ) (xs : List A)
+    → bytes ≡ word count ++ flat_map (λ x. form (g x)) xs ++ left → left ≡ [] → count ≡ len
+    → bytes ≡ word len ++ flat_map form (map g xs)
+list_read form g bytes left count len xs a none same =
+    a ∙ ap (λ (t : List ℕ). word count ++ flat_map (λ x. form (g x)) xs ++ t) none
+    ∙ append-nil (word count ++ flat_map (λ x. form (g x)) xs)
+    ∙ ap₂ (λ n (t : List ℕ). word n ++ t) same (sym (flat_map-map form g xs))

@@ -119,6 +119,12 @@ impl From<AllocError> for Failure {
     }
 }
 
+impl From<RequestError<FriProverError>> for Failure {
+    fn from(error: RequestError<FriProverError>) -> Failure {
+        Failure::Request(error)
+    }
+}
+
 impl From<WriteError> for Failure {
     fn from(error: WriteError) -> Failure {
         match error {

@@ -107,10 +107,7 @@ pub fn prover<F: SchemeField>(alloc: Global, bytes: &[u8]) -> Result<Prover<F>, 
         (λ d. d.log_size) prover.parameters bytes.now prover.committed.items) }
 {
     let parameters = value_of::<Parameters>(alloc, layout_of::<F>(), bytes)?;
-    match Prover::<F>::new(alloc, &parameters) {
-        Ok(prover) => Ok(prover),
-        Err(error) => Err(Failure::Request(error)),
-    }
+    Ok(Prover::<F>::new(alloc, &parameters)?)
 }
 
 /// Commits to the batch in these bytes, keeps it, and answers the commitment. What is refused isn't
@@ -128,17 +125,13 @@ pub fn commit_kept<F: SchemeField>(
     ensures parameters { prover.new.parameters ≡ prover.old.parameters }
 {
     let layout = layout_of::<F>();
-    let committed = match element_matrices::<F>(alloc, layout, bytes) {
-        Ok(matrices) => prover.commit_elements(alloc, matrices),
+    match element_matrices::<F>(alloc, layout, bytes) {
+        Ok(matrices) => Ok(prover.commit_elements(alloc, matrices)?),
         // what isn't read so is read by its numbers, which names the fault
         Err(_) => {
             let batch = value_of::<Batch>(alloc, layout, bytes)?;
-            prover.commit(alloc, &batch)
+            Ok(prover.commit(alloc, &batch)?)
         },
-    };
-    match committed {
-        Ok(commitment) => Ok(commitment),
-        Err(error) => Err(Failure::Request(error)),
     }
 }
 
@@ -157,10 +150,7 @@ pub fn open_kept<F: SchemeField>(
 {
     let layout = layout_of::<F>();
     let asked = value_of::<Asked>(alloc, layout, bytes)?;
-    let opening = match prover.open(alloc, &asked.context, &asked.batches) {
-        Ok(opening) => opening,
-        Err(error) => return Err(Failure::Request(error)),
-    };
+    let opening = prover.open(alloc, &asked.context, &asked.batches)?;
     let statement = Statement {
         context: asked.context,
         parameters: prover.parameters(),

@@ -19,9 +19,9 @@ fields g = fields_of g.F.Field g.F.PrimeField64 g.F.TwoAdicField g.F.ElementByte
 pub returns-clause-answered : goal.returns-clause-answered
 returns-clause-answered g c =
     let asked = c.in_ok-asked.asked in
-    let opening = c.in-Ok.opening in
+    let opening = c.in_ok-opening.opening in
     let prover = c.args.prover.now in
-    let is = c.in-Ok.ensures in
+    let is = c.in_ok-opening.ensures in
     let same = c.parameters.ensures ∙ is.parameters in
     record {
       request = asked;
