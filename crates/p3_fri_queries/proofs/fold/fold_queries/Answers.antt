@@ -130,3 +130,25 @@ pub returns-clause-rows : goal.returns-clause-rows
 returns-clause-rows g c =
     rows_all c.loop-query.invariant
     (all_read g (goal.at.returns-clause-rows g c).In-None)
+
+-- where nothing is answered nothing is said of the answer
+pub returns-in-Err-clause-indices : goal.returns-in-Err-clause-indices
+returns-in-Err-clause-indices g c = tt
+
+pub returns-in-Err-fold_to_final-clause-indices : goal.returns-in-Err-fold_to_final-clause-indices
+returns-in-Err-fold_to_final-clause-indices g c = tt
+
+pub returns-clause-refusal : goal.returns-clause-refusal
+returns-clause-refusal g c = tt
+
+pub returns-in-Err-clause-rows : goal.returns-in-Err-clause-rows
+returns-in-Err-clause-rows g c = tt
+
+pub returns-in-Err-fold_to_final-clause-rows : goal.returns-in-Err-fold_to_final-clause-rows
+returns-in-Err-fold_to_final-clause-rows g c = tt
+
+pub fold_to_final-requires-clause-within_max_height : goal.fold_to_final-requires-clause-within_max_height
+fold_to_final-requires-clause-within_max_height g c = c.requires.within_max_height
+
+pub fold_to_final-requires-clause-within_two_adicity : goal.fold_to_final-requires-clause-within_two_adicity
+fold_to_final-requires-clause-within_two_adicity g c = c.requires.within_two_adicity
