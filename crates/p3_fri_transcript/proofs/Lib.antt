@@ -8,3 +8,5 @@ pub mod StepLists
 pub mod Events
 pub mod Indices
 pub mod Reached
+pub mod Outcomes
+pub mod Kept

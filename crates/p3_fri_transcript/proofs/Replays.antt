@@ -142,6 +142,16 @@ module _ {C F E Com : Type 0} (m : Moves C F E Com) where
       pub state : (rounds_from now commitments witnesses i).state
           ≡ (rounds_replay m bits start commitments witnesses).state
 
+    -- before the first round
+    pub along-none : (start : C) (commitments : List Com) (witnesses : List F) (betas : List E)
+        → betas ≡ [] → IsAlong start commitments witnesses 0 betas start
+    along-none start commitments witnesses betas none = record {
+      passes = refl;
+      betas_drawn =
+          ap (λ drawn. drawn ++ (rounds_replay m bits start commitments witnesses).betas) none;
+      state = refl;
+    }
+
     pub along-next : (start now after : C) (commitments : List Com) (witnesses : List F) (i : ℕ)
         (betas pushed : List E) (commitment : Com) (witness : F) (beta : E)
         → i < length commitments → i < length witnesses

@@ -55,6 +55,10 @@ pub after_final_poly : (d : ℕ) (shape : FriNumbers) (left after : List Turn)
     → after ≡ pow_turns shape.query_pow_bits ++ indices_left shape
 after_final_poly d shape left after is dropped = rest_of (turn_of (message_step d (codes "final_poly") shape.final_poly_len)) left _ after (query_turns d shape left is) dropped
 
+-- at the end there is one for each round
+pub one_for_each : (count i n : ℕ) → count ≡ i → n ≤ i → i ≤ n → count ≡ n
+one_for_each count i n counted all within = omega (arith, counted, all, within)
+
 -- one of the rounds that are left, by the own numbers of a transcript
 pub one_round_left : (d : ℕ) (described own : FriNumbers) (n i : ℕ) (left : List Turn) → i < n
     → own ≡ described

@@ -7,6 +7,7 @@ use Rattle.p3_fri_transcript.specs.Found.{PlayRefused}
 use Rattle.p3_fri_transcript.specs.Shapes.{fri_shape}
 use Rattle.p3_fri_transcript.specs.Steps.{FriNumbers, fri_stream}
 use Rattle.p3_fri_transcript.proofs.Joining.{replay_absorbed}
+use Rattle.p3_fri_transcript.proofs.Outcomes.{no_refusal, no_seed, same_step}
 use Rattle.p3_fri_transcript.proofs.Replays.{fri_ends}
 use Rattle.p3_fri_transcript.proofs.TurnLists.{these_rounds_left}
 use Rattle.p3_fri_transcript.proofs.transcript.play.play_fri.Given.{Over}
@@ -79,7 +80,7 @@ returns-in-Err-played-clause-refused g c = λ e is.
     let start =
     bytes_observed g.F.Field.ops g.C.CanObserve-1.observed c.args.challenger.now
     (fri_stream g.EF.ExtensionField.DIMENSION described) in
-    let named : c.in-Err-played.refusal ≡ e = cc in
+    let named : c.in-Err-played.refusal ≡ e = same_step is in
     let P : FriProverError → Type 0 =
     λ x. PlayRefused (moves_of g) g.F.Field.ops.zero g.C.GrindingChallenger.solution
     g.EF.ExtensionField.coefficients described start c.args.commitments.now c.args.final_poly.now x in
@@ -93,3 +94,13 @@ returns-in-Err-played-clause-absorbed g c = λ started.
     c.in-Ok.ensures.stream in
     let reached = rw seeded at c.in-Err-played.ensures.reached in
     reaches_same (moves_of g) _ _ _ reached (search rules)
+
+-- where nothing is answered nothing is said of the answer
+pub returns-in-Ok-played-clause-unchanged : goal.returns-in-Ok-played-clause-unchanged
+returns-in-Ok-played-clause-unchanged g c = λ same. no_refusal same
+
+pub returns-in-Err-played-clause-unchanged : goal.returns-in-Err-played-clause-unchanged
+returns-in-Err-played-clause-unchanged g c = λ same. no_seed same
+
+pub returns-in-Ok-played-clause-refused : goal.returns-in-Ok-played-clause-refused
+returns-in-Ok-played-clause-refused g c = λ e same. no_refusal same

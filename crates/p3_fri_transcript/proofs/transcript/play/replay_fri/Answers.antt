@@ -8,6 +8,7 @@ use Rattle.p3_fri_transcript.specs.Replay.{FriReplay}
 use Rattle.p3_fri_transcript.specs.Shapes.{fri_shape}
 use Rattle.p3_fri_transcript.specs.Steps.{fri_stream}
 use Rattle.p3_fri_transcript.proofs.Joining.{replay_absorbed}
+use Rattle.p3_fri_transcript.proofs.Outcomes.{no_answer, no_refusal, same_refusal, no_seed, same_step}
 use Rattle.p3_fri_transcript.proofs.Refusals.{fri_failure_is}
 use Rattle.p3_fri_transcript.proofs.Replays.{fri_ends}
 use Rattle.p3_fri_transcript.proofs.TurnLists.{all_rounds_left}
@@ -46,7 +47,7 @@ returns-in-Ok-replayed-clause-replay g c =
 pub returns-in-Ok-replayed-clause-passes : goal.returns-in-Ok-replayed-clause-passes
 returns-in-Ok-replayed-clause-passes g c = λ started remembered.
     let exact = rw c.start-transcript.ensures.starts.shape at c.in-Ok-replayed.ensures.passes in
-    let counts = (exact (λ same. cc)).0 refl in (
+    let counts = (exact (λ same. no_refusal same)).0 refl in (
       (λ ok. record {
         commitment_count = counts.commitment_count;
         witness_count = counts.witness_count;
@@ -79,10 +80,10 @@ returns-in-Err-replayed-clause-passes g c = λ started remembered.
     c.in-Ok.ensures.stream in
     let sent = c.args.messages in
     let exact = rw begun.ensures.starts.shape at c.in-Err-replayed.ensures.passes in (
-      (λ ok. cc),
+      (λ ok. no_answer ok),
       λ held.
           (exact (λ same. remembered (
-          let failed : c.in-Err-replayed.failure ≡ Why.OutOfMemory = cc in
+          let failed : c.in-Err-replayed.failure ≡ Why.OutOfMemory = same_refusal same in
           ap (λ f. Err (Step f)) failed
           ))).1 (record {
             commitment_count = held.commitment_count;
@@ -110,7 +111,7 @@ returns-in-Err-replayed-clause-failure g c = λ e is.
     bytes_observed g.F.Field.ops g.C.CanObserve-1.observed c.args.challenger.now
     (fri_stream g.EF.ExtensionField.DIMENSION described) in
     let sent = c.args.messages in
-    let named : c.in-Err-replayed.failure ≡ e = cc in
+    let named : c.in-Err-replayed.failure ≡ e = same_step is in
     fri_failure_is (moves_of g) g.EF.ExtensionField.coefficients described start
     sent.commitments.now sent.commit_witnesses.now sent.final_poly.now sent.query_witness
     c.replay_steps-replayed.new.transcript.challenger.now _ c.in-Err-replayed.failure e
@@ -125,3 +126,19 @@ returns-in-Err-replayed-clause-absorbed g c = λ started.
     c.in-Ok.ensures.stream in
     let reached = rw seeded at c.in-Err-replayed.ensures.reached in
     reaches_same (moves_of g) _ _ _ reached (search rules)
+
+-- where nothing is answered nothing is said of the answer
+pub returns-in-Err-replayed-clause-betas : goal.returns-in-Err-replayed-clause-betas
+returns-in-Err-replayed-clause-betas g c = tt
+
+pub returns-in-Err-replayed-clause-indices : goal.returns-in-Err-replayed-clause-indices
+returns-in-Err-replayed-clause-indices g c = tt
+
+pub returns-in-Err-replayed-clause-replay : goal.returns-in-Err-replayed-clause-replay
+returns-in-Err-replayed-clause-replay g c = tt
+
+pub returns-in-Ok-replayed-clause-unchanged : goal.returns-in-Ok-replayed-clause-unchanged
+returns-in-Ok-replayed-clause-unchanged g c = λ same. no_refusal same
+
+pub returns-in-Err-replayed-clause-unchanged : goal.returns-in-Err-replayed-clause-unchanged
+returns-in-Err-replayed-clause-unchanged g c = λ same. no_seed same

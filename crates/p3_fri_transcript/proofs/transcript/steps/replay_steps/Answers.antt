@@ -5,6 +5,7 @@ use Rattle.p3_fri_transcript.specs.declared.transcript.failure.TranscriptFailure
 use Rattle.p3_fri_transcript.specs.Replay.{RoundsReplay, QueriesReplay, FriReplay}
 use Rattle.p3_fri_transcript.specs.Shapes.{fri_shape}
 use Rattle.p3_fri_transcript.proofs.Joining.{queries_joined}
+use Rattle.p3_fri_transcript.proofs.Outcomes.{no_answer, no_refusal, same_refusal}
 use Rattle.p3_fri_transcript.proofs.Refusals.{queries_failure_is}
 use Rattle.p3_fri_transcript.proofs.Replays.{fri_passes, fri_queries_pass, queries_any}
 use Rattle.p3_fri_transcript.proofs.transcript.steps.replay_steps.Given.{Over}
@@ -20,10 +21,10 @@ pub returns-in-Err-clause-passes : goal.returns-in-Err-clause-passes
 returns-in-Err-clause-passes g c = λ remembered.
     let sent = c.args.messages in
     let start = c.args.transcript.now.challenger.now in (
-      (λ ok. cc),
+      (λ ok. no_answer ok),
       λ held.
           (c.in-Err.ensures.passes (λ same. remembered (
-          let failed : c.in-Err.failure ≡ Why.OutOfMemory = cc in
+          let failed : c.in-Err.failure ≡ Why.OutOfMemory = same_refusal same in
           ap Err failed
           ))).1 (record {
             commitment_count = held.commitment_count;
@@ -47,10 +48,10 @@ returns-in-Err-query_phase-clause-passes g c = λ remembered.
     let start = c.args.transcript.now.challenger.now in
     let after = c.commit_rounds.new.self.challenger.now in
     let exact = rw c.in-Ok.ensures.kept.shape at c.in-Err-query_phase.ensures.passes in (
-      (λ ok. cc),
+      (λ ok. no_answer ok),
       λ held.
           (exact (λ same. remembered (
-          let failed : c.in-Err-query_phase.failure ≡ Why.OutOfMemory = cc in
+          let failed : c.in-Err-query_phase.failure ≡ Why.OutOfMemory = same_refusal same in
           ap Err failed
           ))).1 (record {
             coefficient_count = held.coefficient_count;
@@ -72,7 +73,7 @@ returns-in-Err-query_phase-clause-failure g c =
     let last = c.query_phase.new.self.challenger.now in
     let failure = c.in-Err-query_phase.failure in
     inr (
-      (c.in-Ok.ensures.passes (λ same. cc)).0 refl,
+      (c.in-Ok.ensures.passes (λ same. no_refusal same)).0 refl,
       queries_failure_is (moves_of g) described start sent.commitments.now sent.commit_witnesses.now
           g.EF.ExtensionField.coefficients sent.final_poly.now sent.query_witness
           c.commit_rounds.new.self.challenger.now last last failure failure
@@ -105,9 +106,9 @@ returns-clause-replay g c =
 
 pub returns-clause-passes : goal.returns-clause-passes
 returns-clause-passes g c = λ remembered.
-    let counts = (c.in-Ok.ensures.passes (λ same. cc)).0 refl in
+    let counts = (c.in-Ok.ensures.passes (λ same. no_refusal same)).0 refl in
     let exact = rw c.in-Ok.ensures.kept.shape at c.in-Ok-query_phase.ensures.passes in
-    let lengths = (exact (λ same. cc)).0 refl in (
+    let lengths = (exact (λ same. no_refusal same)).0 refl in (
       (λ ok. record {
         commitment_count = counts.commitment_count;
         witness_count = counts.witness_count;

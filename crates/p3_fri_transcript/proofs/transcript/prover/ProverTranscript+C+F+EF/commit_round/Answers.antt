@@ -8,6 +8,7 @@ use Rattle.p3_fri_transcript.proofs.TurnLists.{challenge_left, after_commitment}
 use Rattle.std.proofs.Common.{sym, ◌∙◌}
 use Rattle.p3_fri_pow.proofs.Reached.{reaches_same, reaches_observed}
 use Rattle.p3_fri_transcript.proofs.Reached.{reaches_round}
+use Rattle.std.proofs.lemmas.Result.{IfOk-from_err}
 use Rattle.p3_fri_transcript.proofs.transcript.prover.ProverTranscript+C+F+EF.commit_round.Goals as goal
 
 pub grind-requires-clause-next : goal.grind-requires-clause-next
@@ -47,3 +48,16 @@ returns-clause-reached g c =
     c.observe_opaque.new.challenger c.grind.new.challenger _ c.args.commitment _
     c.observe_opaque.ensures.state c.in_ok-witness.ensures.state
     c.challenge_extension-challenge.ensures.state
+
+-- where nothing is answered nothing is said of the answer
+pub returns-in_err-witness-clause-round : goal.returns-in_err-witness-clause-round
+returns-in_err-witness-clause-round g c =
+    IfOk-from_err c.from_residual.result _ c.from_residual.ensures.0
+
+pub returns-in_err-witness-clause-steps : goal.returns-in_err-witness-clause-steps
+returns-in_err-witness-clause-steps g c =
+    IfOk-from_err c.from_residual.result _ c.from_residual.ensures.0
+
+pub returns-in_err-witness-clause-witness : goal.returns-in_err-witness-clause-witness
+returns-in_err-witness-clause-witness g c =
+    IfOk-from_err c.from_residual.result _ c.from_residual.ensures.0

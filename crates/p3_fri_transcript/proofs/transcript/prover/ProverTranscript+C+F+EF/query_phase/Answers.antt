@@ -12,6 +12,7 @@ use Rattle.std.proofs.Common.{Some, sym}
 use Rattle.p3_fri_pow.proofs.Reached.{reaches_same}
 use Rattle.p3_fri_transcript.proofs.Indices.{draws_are_indices}
 use Rattle.p3_fri_transcript.proofs.Reached.{reaches_polynomial, reaches_tried, reaches_queries}
+use Rattle.std.proofs.lemmas.Result.{IfOk-from_err}
 use Rattle.p3_fri_transcript.proofs.transcript.prover.ProverTranscript+C+F+EF.query_phase.Goals as goal
 
 pub grind-requires-clause-next : goal.grind-requires-clause-next
@@ -79,3 +80,36 @@ returns-clause-reached g c =
     c.args.self.now.challenger.now c.observe_extensions.new.challenger c.grind.new.challenger _
     c.args.final_poly.now (Some _) c.observe_extensions.ensures.state
     c.in_ok-witness.ensures.state c.in_ok-indices.ensures.state
+
+-- where nothing is answered nothing is said of the answer
+pub returns-in_err-indices-clause-indices : goal.returns-in_err-indices-clause-indices
+returns-in_err-indices-clause-indices g c =
+    IfOk-from_err c.from_residual-in_err-indices.result _ c.from_residual-in_err-indices.ensures.0
+
+pub returns-in_err-indices-clause-queries : goal.returns-in_err-indices-clause-queries
+returns-in_err-indices-clause-queries g c =
+    IfOk-from_err c.from_residual-in_err-indices.result _ c.from_residual-in_err-indices.ensures.0
+
+pub returns-in_err-indices-clause-steps : goal.returns-in_err-indices-clause-steps
+returns-in_err-indices-clause-steps g c =
+    IfOk-from_err c.from_residual-in_err-indices.result _ c.from_residual-in_err-indices.ensures.0
+
+pub returns-in_err-indices-clause-witness : goal.returns-in_err-indices-clause-witness
+returns-in_err-indices-clause-witness g c =
+    IfOk-from_err c.from_residual-in_err-indices.result _ c.from_residual-in_err-indices.ensures.0
+
+pub returns-in_err-witness-clause-indices : goal.returns-in_err-witness-clause-indices
+returns-in_err-witness-clause-indices g c =
+    IfOk-from_err c.from_residual.result _ c.from_residual.ensures.0
+
+pub returns-in_err-witness-clause-queries : goal.returns-in_err-witness-clause-queries
+returns-in_err-witness-clause-queries g c =
+    IfOk-from_err c.from_residual.result _ c.from_residual.ensures.0
+
+pub returns-in_err-witness-clause-steps : goal.returns-in_err-witness-clause-steps
+returns-in_err-witness-clause-steps g c =
+    IfOk-from_err c.from_residual.result _ c.from_residual.ensures.0
+
+pub returns-in_err-witness-clause-witness : goal.returns-in_err-witness-clause-witness
+returns-in_err-witness-clause-witness g c =
+    IfOk-from_err c.from_residual.result _ c.from_residual.ensures.0

@@ -3,6 +3,7 @@ use Rattle.p3_challenger_fs.specs.Pattern.{step_of}
 use Rattle.p3_fri_transcript.specs.Shapes.{fri_shape}
 use Rattle.p3_fri_pow.proofs.Pushed.{pushed}
 use Rattle.p3_fri_transcript.proofs.StepLists.{fri_pushed}
+use Rattle.std.proofs.lemmas.Result.{IfOk-from_err}
 use Rattle.p3_fri_transcript.proofs.transcript.shape.FriShape.pattern.Goals as goal
 
 pub returns : goal.returns
@@ -19,3 +20,8 @@ returns g c =
     (pushed _ _ c.bits.result _ c.in_ok-push-2.ensures.items refl)
     c.algebra.ensures
     c.bits.ensures
+
+-- where nothing is answered nothing is said of the answer
+pub returns-in_err-push-2 : goal.returns-in_err-push-2
+returns-in_err-push-2 g c =
+    IfOk-from_err c.from_residual-in_err-push-2.result _ c.from_residual-in_err-push-2.ensures.0

@@ -46,3 +46,5 @@ returns-in-Ok-clause-reached g c =
     reaches_round _ (fri_shape c.args.self.now.shape).commit_pow_bits c.args.self.now.challenger.now
     c.observe_opaque.new.challenger c.check.new.challenger _ c.args.commitment c.args.witness
     c.observe_opaque.ensures.state c.in-Ok.ensures.state c.challenge_extension.ensures.state
+
+-- where nothing is answered nothing is said of the answer

@@ -1,68 +1,80 @@
-use Rattle.std.proofs.Common.{◌+◌, ◌-◌, length, refl, sym, ap, ◌∙◌, arith, subst}
+use Rattle.std.proofs.Common.{◌+◌, ◌-◌, ◌<◌, ◌≤◌, length, Err, refl, sym, ap, ◌∙◌, arith, subst}
 use Rattle.std.proofs.lemmas.Result.{IfOk-from_err}
-use Rattle.std.proofs.lemmas.List.{length-append}
-use Rattle.p3_challenger_core.specs.Run.{moves}
-use Rattle.p3_fri_pow.proofs.Reached.{reaches_join}
+use Rattle.std.proofs.lemmas.List.{length_push}
+use Rattle.std.specs.Prelude.{IsTrue}
+use Rattle.p3_challenger_core.specs.Run.{Moves, moves}
+use Rattle.p3_challenger_fs.specs.Script.{remaining}
+use Rattle.p3_fri_pow.proofs.Reached.{reaches_itself, reaches_join}
 use Rattle.p3_fri_transcript.specs.declared.transcript.failure.TranscriptFailure.{TranscriptFailure}
+use Rattle.p3_fri_transcript.specs.declared.transcript.failure.TranscriptFailure.TheVariants as Why
 use Rattle.p3_fri_transcript.specs.Failures.{RoundsFailure}
-use Rattle.p3_fri_transcript.specs.Replay.{RoundsReplay}
+use Rattle.p3_fri_transcript.specs.Replay.{RoundsReplay, round_replay, rounds_replay}
 use Rattle.p3_fri_transcript.specs.Shapes.{fri_shape}
 use Rattle.p3_fri_transcript.specs.Steps.{FriNumbers}
-use Rattle.p3_fri_transcript.proofs.Replays.{along-next, along-passes, along-end}
-use Rattle.p3_fri_transcript.proofs.TurnLists.{one_round_left, other_rounds_left}
+use Rattle.p3_fri_transcript.specs.Turns.{RoundsLeft}
+use Rattle.p3_fri_transcript.proofs.Kept.{kept_join}
+use Rattle.p3_fri_transcript.proofs.Outcomes.{no_answer}
+use Rattle.p3_fri_transcript.proofs.Replays.{along-none, along-next, along-passes, along-end}
+use Rattle.p3_fri_transcript.proofs.TurnLists.{one_round_left, other_rounds_left, no_round_taken, all_rounds_taken}
+use Rattle.p3_fri_transcript.proofs.TurnLists.{one_for_each}
+use Rattle.p3_fri_transcript.proofs.transcript.verifier.VerifierTranscript+C+F+EF.commit_rounds.Given.{Over}
 use Rattle.p3_fri_transcript.proofs.transcript.verifier.VerifierTranscript+C+F+EF.commit_rounds.Goals as goal
+
+abbrev moves_of : (g : Over) → Moves g.row.C.Denot g.row.F.Denot g.row.EF.Denot g.row.Com.Denot
+moves_of g =
+    moves g.C.CanObserve-1.observed g.C.CanObserve-2.observed g.C.CanSample.sampled
+    g.EF.ExtensionField.of_coefficients g.EF.ExtensionField.DIMENSION
+    g.C.CanSampleBits.sampled_bits
 
 pub commit_round-requires-clause-some_round_left : goal.commit_round-requires-clause-some_round_left
 commit_round-requires-clause-some_round_left g c =
     let here = c.loop-round in (
       c.len-expected.result - (here.round + 1),
       one_round_left g.EF.ExtensionField.DIMENSION (fri_shape c.args.self.now.shape)
-          (fri_shape here.self.shape) c.len-expected.result here.round _ (omega arith)
+          (fri_shape here.self.shape) c.len-expected.result here.round _ c.loop-round-test.true
           here.invariant.kept.shape here.invariant.steps,
     )
 
-pub returns-in-Err-clause-passes : goal.returns-in-Err-clause-passes
-returns-in-Err-clause-passes g c = λ known.
+-- where all rounds pass, the one that was refused does
+round_passes : (g : Over) (c : goal.After-drop-betas-in-Err g)
+    → IsTrue (rounds_replay (moves_of g) (fri_shape c.args.self.now.shape).commit_pow_bits
+    c.args.self.now.challenger.now c.args.commitments.now c.args.witnesses.now).passes
+    → IsTrue (round_replay (moves_of g) (fri_shape c.loop-round.self.shape).commit_pow_bits
+    c.loop-round.self.challenger.now c.index-commitments-round.result
+    c.index-witnesses-round.result).passes
+round_passes g c pass =
     let here = c.loop-round in
-    let m =
-    moves g.C.CanObserve-1.observed g.C.CanObserve-2.observed g.C.CanSample.sampled
-    g.EF.ExtensionField.of_coefficients g.EF.ExtensionField.DIMENSION
-    g.C.CanSampleBits.sampled_bits in (
-      (λ ok. cc),
-      λ held.
-          (rw here.invariant.kept.shape at c.in-Err.ensures.passes).1
-          (along-passes m (fri_shape c.args.self.now.shape).commit_pow_bits
-          c.args.self.now.challenger.now here.self.challenger.now c.args.commitments.now
-          c.args.witnesses.now here.round here.betas.items c.index-commitments-round.result
-          c.index-witnesses-round.result (omega arith) (omega arith) c.index-commitments-round.is
-          c.index-witnesses-round.is here.invariant.along held.pow),
-    )
+    let m = moves_of g in
+    subst (λ (s : FriNumbers). IsTrue (round_replay m s.commit_pow_bits here.self.challenger.now
+    c.index-commitments-round.result c.index-witnesses-round.result).passes)
+    (sym here.invariant.kept.shape)
+    (along-passes m (fri_shape c.args.self.now.shape).commit_pow_bits
+    c.args.self.now.challenger.now here.self.challenger.now c.args.commitments.now
+    c.args.witnesses.now here.round here.betas.items c.index-commitments-round.result
+    c.index-witnesses-round.result
+    (subst (λ n. here.round < n) (sym c.if-commitments-expected.false) c.loop-round-test.true)
+    (subst (λ n. here.round < n) (sym c.if-witnesses-expected.false) c.loop-round-test.true)
+    c.index-commitments-round.is c.index-witnesses-round.is here.invariant.along pass)
+
+pub returns-in-Err-clause-passes : goal.returns-in-Err-clause-passes
+returns-in-Err-clause-passes g c = λ known. (
+  (λ ok. no_answer ok),
+  λ held. c.in-Err.ensures.passes.1 (round_passes g c held.pow),
+)
 
 pub returns-in-Err-clause-failure : goal.returns-in-Err-clause-failure
 unfolding fri_shape
 returns-in-Err-clause-failure g c =
-    let here = c.loop-round in
-    let m =
-    moves g.C.CanObserve-1.observed g.C.CanObserve-2.observed g.C.CanSample.sampled
-    g.EF.ExtensionField.of_coefficients g.EF.ExtensionField.DIMENSION
-    g.C.CanSampleBits.sampled_bits in
     let described = fri_shape c.args.self.now.shape in
     let start = c.args.self.now.challenger.now in
     let P : TranscriptFailure → Type 0 =
-    λ e. RoundsFailure m described start c.args.commitments.now c.args.witnesses.now
+    λ e. RoundsFailure (moves_of g) described start c.args.commitments.now c.args.witnesses.now
     c.commit_round.new.self.challenger.now e in
+    let counted = c.len-expected.ensures ∙ c.args.self.now.shape.log_arities.ok.0 in
     subst P (sym c.in-Err.ensures.refused) (
-      omega (arith, c.args.self.now.shape.log_arities.ok.0, c.len-expected.ensures),
-      omega (arith, c.args.self.now.shape.log_arities.ok.0, c.len-expected.ensures),
-      λ pass.
-          let ok =
-          (rw (ap (λ (s : FriNumbers). s.commit_pow_bits) here.invariant.kept.shape)
-          at c.in-Err.ensures.passes).1
-          (along-passes m described.commit_pow_bits start here.self.challenger.now
-          c.args.commitments.now c.args.witnesses.now here.round here.betas.items
-          c.index-commitments-round.result c.index-witnesses-round.result (omega arith) (omega arith)
-          c.index-commitments-round.is c.index-witnesses-round.is here.invariant.along pass) in
-          cc,
+      c.if-commitments-expected.false ∙ counted,
+      c.if-witnesses-expected.false ∙ counted,
+      λ pass. no_answer (c.in-Err.ensures.passes.1 (round_passes g c pass)),
     )
 
 pub returns-in-Err-clause-reached : goal.returns-in-Err-clause-reached
@@ -78,26 +90,28 @@ loop-round-preserved g c =
     let here = c.loop-round in
     let d = g.EF.ExtensionField.DIMENSION in
     let described = fri_shape c.args.self.now.shape in
-    let m =
-    moves g.C.CanObserve-1.observed g.C.CanObserve-2.observed g.C.CanSample.sampled
-    g.EF.ExtensionField.of_coefficients d g.C.CanSampleBits.sampled_bits in
+    let m = moves_of g in
+    let now = here.self.challenger.now in
+    let commitment = c.index-commitments-round.result in
+    let witness = c.index-witnesses-round.result in
     let rounds = c.len-expected.result in
+    let there = c.loop-round-test.true in
+    let same = ap (λ (s : FriNumbers). s.commit_pow_bits) here.invariant.kept.shape in
     let left =
-    one_round_left d described (fri_shape here.self.shape) rounds here.round _ (omega arith)
+    one_round_left d described (fri_shape here.self.shape) rounds here.round _ there
     here.invariant.kept.shape here.invariant.steps in
     record {
-      along = along-next m described.commit_pow_bits c.args.self.now.challenger.now
-          here.self.challenger.now c.commit_round.new.self.challenger.now c.args.commitments.now
-          c.args.witnesses.now here.round here.betas.items c.push.new.list.items
-          c.index-commitments-round.result c.index-witnesses-round.result c.in-Ok.beta (omega arith)
-          (omega arith) c.index-commitments-round.is c.index-witnesses-round.is
-          (rw here.invariant.kept.shape at c.in-Ok.ensures.round) c.in_ok-push-in-Ok.ensures
-          here.invariant.along;
-      count = omega (arith, simp length-append at (ap length c.in_ok-push-in-Ok.ensures));
-      kept = record {
-        same = c.in-Ok.ensures.kept.same ∙ here.invariant.kept.same;
-        shape = c.in-Ok.ensures.kept.shape ∙ here.invariant.kept.shape;
-      };
+      along = along-next m described.commit_pow_bits c.args.self.now.challenger.now now
+          c.commit_round.new.self.challenger.now c.args.commitments.now c.args.witnesses.now
+          here.round here.betas.items c.push.new.list.items commitment witness c.in-Ok.beta
+          (subst (λ n. here.round < n) (sym c.if-commitments-expected.false) there)
+          (subst (λ n. here.round < n) (sym c.if-witnesses-expected.false) there)
+          c.index-commitments-round.is c.index-witnesses-round.is
+          (ap (λ b. round_replay m b now commitment witness) (sym same) ∙ c.in-Ok.ensures.round)
+          c.in_ok-push-in-Ok.ensures here.invariant.along;
+      count = ap length c.in_ok-push-in-Ok.ensures ∙ length_push here.betas.items c.in-Ok.beta
+          ∙ ap (λ n. n + 1) here.invariant.count;
+      kept = kept_join here.invariant.kept c.in-Ok.ensures.kept;
       steps = other_rounds_left d described (fri_shape here.self.shape) _ _ here.invariant.kept.shape
           (c.in-Ok.ensures.steps (rounds - (here.round + 1)) left);
       reached = reaches_join m _ here.self.challenger.now _ here.invariant.reached
@@ -157,3 +171,93 @@ returns-in_err-push-in-Ok-clause-count g c =
 pub returns-in_err-push-in-Ok-clause-steps : goal.returns-in_err-push-in-Ok-clause-steps
 returns-in_err-push-in-Ok-clause-steps g c =
     IfOk-from_err c.from_residual-in_err-push-in-Ok.result _ c.from_residual-in_err-push-in-Ok.ensures.0
+
+pub returns-in-Err-clause-count : goal.returns-in-Err-clause-count
+returns-in-Err-clause-count g c = tt
+
+pub returns-in-Err-clause-rounds : goal.returns-in-Err-clause-rounds
+returns-in-Err-clause-rounds g c = tt
+
+pub returns-in-Err-clause-steps : goal.returns-in-Err-clause-steps
+returns-in-Err-clause-steps g c = tt
+
+pub loop-round-init : goal.loop-round-init
+unfolding fri_shape
+loop-round-init g c =
+    let start = c.args.self.now.challenger.now in
+    record {
+      along = along-none (moves_of g) (fri_shape c.args.self.now.shape).commit_pow_bits start
+          c.args.commitments.now c.args.witnesses.now c.in_ok-betas.betas.items
+          c.in_ok-betas.ensures.items;
+      count = ap length c.in_ok-betas.ensures.items;
+      kept = record { same = refl; shape = refl };
+      steps = no_round_taken g.EF.ExtensionField.DIMENSION (fri_shape c.args.self.now.shape)
+          c.len-expected.result _
+          (subst (λ n. RoundsLeft g.EF.ExtensionField.DIMENSION (fri_shape c.args.self.now.shape) n
+          (remaining c.args.self.now.script))
+          (sym (c.len-expected.ensures ∙ c.args.self.now.shape.log_arities.ok.0))
+          c.requires.no_round_played);
+      reached = reaches_itself (moves_of g) start start refl;
+    }
+
+pub returns-in-Err-clause-kept : goal.returns-in-Err-clause-kept
+returns-in-Err-clause-kept g c =
+    kept_join c.loop-round.invariant.kept c.in-Err.ensures.kept
+
+pub returns-in_err-push-in-Ok-clause-kept : goal.returns-in_err-push-in-Ok-clause-kept
+returns-in_err-push-in-Ok-clause-kept g c =
+    kept_join c.loop-round.invariant.kept c.in-Ok.ensures.kept
+
+pub returns-in-Err-clause-wrong_witnesses : goal.returns-in-Err-clause-wrong_witnesses
+unfolding fri_shape
+returns-in-Err-clause-wrong_witnesses g c = λ same other.
+    absurd (other (c.if-witnesses-expected.false ∙ c.len-expected.ensures
+    ∙ c.args.self.now.shape.log_arities.ok.0))
+
+pub returns-in-Err-clause-wrong_commitments : goal.returns-in-Err-clause-wrong_commitments
+unfolding fri_shape
+returns-in-Err-clause-wrong_commitments g c = λ other.
+    absurd (other (c.if-commitments-expected.false ∙ c.len-expected.ensures
+    ∙ c.args.self.now.shape.log_arities.ok.0))
+
+pub returns-then-commitments-expected-clause-wrong_commitments : goal.returns-then-commitments-expected-clause-wrong_commitments
+unfolding fri_shape
+returns-then-commitments-expected-clause-wrong_commitments g c = λ other.
+    ap (λ n. Err (Why.CommitRoundCount n (length c.args.commitments.now)))
+    (c.len-expected.ensures ∙ c.args.self.now.shape.log_arities.ok.0)
+
+pub returns-then-commitments-expected-clause-wrong_witnesses : goal.returns-then-commitments-expected-clause-wrong_witnesses
+unfolding fri_shape
+returns-then-commitments-expected-clause-wrong_witnesses g c = λ same other.
+    absurd (c.if-commitments-expected.true (same ∙ sym (c.len-expected.ensures
+    ∙ c.args.self.now.shape.log_arities.ok.0)))
+
+pub returns-then-witnesses-expected-clause-wrong_witnesses : goal.returns-then-witnesses-expected-clause-wrong_witnesses
+unfolding fri_shape
+returns-then-witnesses-expected-clause-wrong_witnesses g c = λ same other.
+    ap (λ n. Err (Why.CommitPowWitnessCount n (length c.args.witnesses.now)))
+    (c.len-expected.ensures ∙ c.args.self.now.shape.log_arities.ok.0)
+
+pub returns-then-witnesses-expected-clause-wrong_commitments : goal.returns-then-witnesses-expected-clause-wrong_commitments
+unfolding fri_shape
+returns-then-witnesses-expected-clause-wrong_commitments g c = λ other.
+    absurd (other (c.if-commitments-expected.false ∙ c.len-expected.ensures
+    ∙ c.args.self.now.shape.log_arities.ok.0))
+
+pub returns-clause-steps : goal.returns-clause-steps
+returns-clause-steps g c =
+    all_rounds_taken g.EF.ExtensionField.DIMENSION (fri_shape c.args.self.now.shape)
+    c.len-expected.result c.loop-round.round _ c.loop-round-test.false
+    c.loop-round.invariant.steps
+
+pub commit_round-requires-clause-at_most_max : goal.commit_round-requires-clause-at_most_max
+commit_round-requires-clause-at_most_max g c =
+    subst (λ (s : FriNumbers). s.commit_pow_bits ≤ g.C.CanSampleBits.MAX_SAMPLE_BITS)
+    (sym c.loop-round.invariant.kept.shape) c.requires.at_most_max
+
+pub returns-clause-count : goal.returns-clause-count
+unfolding fri_shape
+returns-clause-count g c =
+    one_for_each (length c.loop-round.betas.items) c.loop-round.round c.len-expected.result
+    c.loop-round.invariant.count c.loop-round-test.false c.loop-round.auto.round-end
+    ∙ c.len-expected.ensures ∙ c.args.self.now.shape.log_arities.ok.0

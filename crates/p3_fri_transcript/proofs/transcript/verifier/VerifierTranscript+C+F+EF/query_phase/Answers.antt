@@ -11,6 +11,7 @@ use Rattle.p3_fri_transcript.proofs.TurnLists.{indices_left, after_final_poly}
 use Rattle.p3_fri_pow.proofs.Reached.{reaches_same}
 use Rattle.p3_fri_transcript.proofs.Indices.{draws_are_indices}
 use Rattle.p3_fri_transcript.proofs.Reached.{reaches_tried, reaches_queries}
+use Rattle.std.proofs.lemmas.Result.{IfOk-from_err}
 use Rattle.p3_fri_transcript.proofs.transcript.verifier.VerifierTranscript+C+F+EF.query_phase.Goals as goal
 
 pub check-requires-clause-next : goal.check-requires-clause-next
@@ -132,3 +133,16 @@ returns-clause-steps g c =
     rest_of _ _ [] _
     (c.in-Ok.ensures.steps (indices_left shape) (after_final_poly g.EF.ExtensionField.DIMENSION shape _ _ c.requires.all_rounds_played c.observe_extensions.ensures.steps))
     c.in_ok-indices.ensures.steps
+
+-- where nothing is answered nothing is said of the answer
+pub returns-in_err-indices-clause-indices : goal.returns-in_err-indices-clause-indices
+returns-in_err-indices-clause-indices g c =
+    IfOk-from_err c.from_residual.result _ c.from_residual.ensures.0
+
+pub returns-in_err-indices-clause-queries : goal.returns-in_err-indices-clause-queries
+returns-in_err-indices-clause-queries g c =
+    IfOk-from_err c.from_residual.result _ c.from_residual.ensures.0
+
+pub returns-in_err-indices-clause-steps : goal.returns-in_err-indices-clause-steps
+returns-in_err-indices-clause-steps g c =
+    IfOk-from_err c.from_residual.result _ c.from_residual.ensures.0
