@@ -4,6 +4,7 @@ use Rattle.std.proofs.Common.{List, [], ◌∷◌, ◌++◌, take, drop, length,
 use Rattle.std.proofs.Common.{true, false, refl, sym, ap, ap₂, ◌∙◌, arith, add-one, append_assoc, eqb, inl, inr}
 use Rattle.std.specs.List.{flat_map, zip, between}
 use Rattle.std.proofs.lemmas.List.{length-map, get_or-set_same, get_or-set_other, length-set, map-append}
+use Rattle.std.proofs.lemmas.List.{take_all, drop_all}
 use Rattle.std.proofs.lemmas.Bool.Decides.{eqb_tells}
 use Rattle.std.proofs.lemmas.Simd.{map-map}
 use Rattle.algebra.specs.Field.{FieldOps, sub}
@@ -40,6 +41,20 @@ module _ {F E : Type 0} (K : FieldOps E) (lift : F → E) (log_blowup : ℕ) whe
         → ((h : ℕ) (d : E) → h < length before → get_or before h d ≡ val K (later h) alpha)
         → (h : ℕ) (d : E) → h < length before → get_or sums h d
         ≡ val K (terms_of h (read h) (drop k ms) (drop k rows) ++ later h) alpha
+
+  -- before the first turn
+  pub none_summed : (alpha : E) (ms : List (MatrixClaim E)) (rows : List (List F))
+      (inverses sums : List E) (k end : ℕ) → length ms ≤ k
+      → end ≡ length (combined_values K alpha ms)
+      → AreSummedFrom alpha ms rows inverses sums k end sums
+  none_summed alpha ms rows inverses sums k end all counted = record {
+    taken = counted
+        ∙ ap (λ xs. length (combined_values K alpha xs)) (sym (take_all k ms all));
+    count = refl;
+    summed = λ read later inverted before h d l. before h d l
+        ∙ ap (λ xs. val K (terms_of h (read h) xs (drop k rows) ++ later h) alpha)
+        (sym (drop_all k ms all));
+  }
 
   -- what is known of a matrix among those of a commitment, of which there are sums below `count`
   pub record IsAmong (count powers : ℕ) (alpha : E) (ms : List (MatrixClaim E))

@@ -4,16 +4,19 @@ use Rattle.std.proofs.Common.{eqb, List, [], ◌∷◌, ◌++◌, length, map, A
 use Rattle.std.proofs.Common.{ap₂, ◌∙◌, arith}
 use Rattle.std.proofs.Math.Nat.{mul-div_cancel_left}
 use Rattle.std.proofs.lemmas.Bool.{eqb-true}
-use Rattle.std.proofs.lemmas.List.{length-map}
+use Rattle.std.proofs.lemmas.List.{length-map, get_or_default}
 use Rattle.std.proofs.lemmas.List.Elements.{All-append, All-nil}
 use Rattle.std.proofs.lemmas.List.Folds.{Any-from_list_any}
 use Rattle.algebra.specs.Field.{FieldOps, sub}
-use Rattle.p3_fri_relation.specs.Setting.{MatrixClaim}
-use Rattle.p3_fri_relation.specs.Heights.{log_height, has_height, heights_below, heights_of}
+use Rattle.std.specs.Prelude.{Any}
+use Rattle.p3_fri_relation.specs.Setting.{Fields, MatrixClaim, CommitmentClaim}
+use Rattle.p3_fri_relation.specs.Faults.{At}
+use Rattle.p3_fri_relation.specs.QuotientSums.{point_read}
+use Rattle.p3_fri_relation.specs.Heights.{log_height, has_height, heights_below, heights_of, matrices_of}
 use Rattle.p3_fri_relation.specs.Heights.{greatest_height}
 use Rattle.p3_fri_inputs.specs.Claims.{combined_values, distances, IsApart}
 use Rattle.p3_fri_inputs.proofs.LogHeights.{greatest_within}
-use Rattle.p3_fri_inputs.proofs.Openings.{same_count}
+use Rattle.p3_fri_inputs.proofs.Openings.{same_count, all_of_one}
 
 pub map_agree : {A B : Type 0} (f g : A → B) (xs : List A) → All (λ x. f x ≡ g x) xs
     → map f xs ≡ map g xs
@@ -73,6 +76,45 @@ module _ {E : Type 0} (log_blowup : ℕ) where
   distances_count K alpha read ms =
       sym (length-map (distances K log_blowup read ms) K.inv)
       ∙ sym (same_count K log_blowup alpha read ms)
+
+-- a claimed point that one query reads is among those that all read
+pub met_by_query : {F E InCom : Type 0} (f : Fields F E) (b top : ℕ)
+    (cs : List (CommitmentClaim E InCom)) (indices : List ℕ) (j : ℕ) (read : ℕ → E)
+    (batch matrix point : ℕ) → All (λ m. log_height b m ≤ top) (matrices_of cs)
+    → j < length indices
+    → ((h : ℕ) → h ≤ top → read h ≡ point_read f top (get_or indices j 0) h)
+    → At batch (λ c. At matrix (λ m. At point (λ z. z.point ≡ read (log_height b m)) m.points)
+    c.matrices) cs
+    → At batch (λ c. At matrix (λ m. At point (λ z. Any (λ q.
+    z.point ≡ point_read f top q (log_height b m)) indices) m.points) c.matrices) cs
+met_by_query f b top cs indices j read batch matrix point heights below same met =
+    let inner = met.3 in
+    let met_point = inner.3 in
+    let low = subst (λ m. log_height b m ≤ top) inner.2
+    (all_of_one (λ m. log_height b m ≤ top) cs heights batch met.0 met.1 (sym met.2) matrix
+    inner.0 inner.1) in
+    let query = get_or indices j 0 in (
+      met.0,
+      met.1,
+      met.2,
+      (
+        inner.0,
+        inner.1,
+        inner.2,
+        (
+          met_point.0,
+          met_point.1,
+          met_point.2,
+          (
+            j,
+            query,
+            below,
+            get_or_default indices j query 0 below,
+            met_point.3 ∙ same (log_height b inner.0) low,
+          ),
+        ),
+      ),
+    )
 
 pub share : (n p total : ℕ) → 0 < n → total ≡ n * p → total / n ≡ p
 share n p total l e = ap (λ t. t / n) e ∙ mul-div_cancel_left p l

@@ -8,6 +8,7 @@ use Rattle.p3_fri_inputs.specs.Claims.{claim_of, combined_values, IsWithin}
 use Rattle.algebra.proofs.Growing.{mapped_more, mapped_end}
 use Rattle.algebra.proofs.Lists.{entry_of_map}
 use Rattle.p3_fri_inputs.proofs.Openings.{all_of_one}
+use Rattle.std.proofs.lemmas.Result.{IfOk-from_err}
 use Rattle.p3_fri_inputs.proofs.claims.combine_claims.Goals as goal
 
 pub combine_claim-requires : goal.combine_claim-requires
@@ -18,7 +19,7 @@ combine_claim-requires g c =
     let cs = claims_of size claims in
     let it = c.index-claims-batch.result in
     let is = c.index-claims-batch.is in
-    let below : i < length claims = omega arith in
+    let below : i < length claims = c.loop-batch-test.true in
     let here : i < length cs = omega (arith, below, length-map claims (claim_of size)) in
     let e = claim_of size it in
     let is_c = entry_of_map (claim_of size) claims i it below is in
@@ -34,7 +35,7 @@ loop-batch-preserved g c =
     let cs = claims_of size claims in
     let it = c.index-claims-batch.result in
     let is = c.index-claims-batch.is in
-    let below : i < length claims = omega arith in
+    let below : i < length claims = c.loop-batch-test.true in
     let here : i < length cs = omega (arith, below, length-map claims (claim_of size)) in
     let e = claim_of size it in
     let is_c = entry_of_map (claim_of size) claims i it below is in
@@ -56,3 +57,12 @@ returns g c =
     combined_values g.EF.Field.ops c.args.ladder.now.alpha d.matrices in
     mapped_end under (claims_of size c.args.claims.now) c.loop-batch.batch [] (lists c.loop-batch.combined.items)
     (omega (arith, length-map c.args.claims.now (claim_of size))) c.loop-batch.invariant
+
+-- where nothing is answered nothing is said of the answer
+pub returns-in_err-combine_claim : goal.returns-in_err-combine_claim
+returns-in_err-combine_claim g c =
+    IfOk-from_err c.from_residual-in_err-combine_claim.result _ c.from_residual-in_err-combine_claim.ensures.0
+
+pub returns-in_err-push : goal.returns-in_err-push
+returns-in_err-push g c =
+    IfOk-from_err c.from_residual-in_err-push.result _ c.from_residual-in_err-push.ensures.0

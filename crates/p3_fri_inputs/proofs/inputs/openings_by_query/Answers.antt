@@ -15,6 +15,7 @@ use Rattle.p3_fri_inputs.proofs.Queries.{distances_count}
 use Rattle.p3_fri_inputs.proofs.Shares.{ShareAt, own_inverses}
 use Rattle.p3_fri_inputs.proofs.inputs.openings_by_query.Given.{Over}
 use Rattle.p3_fri_inputs.proofs.inputs.openings_by_query.Goals.{In-loop-j}
+use Rattle.std.proofs.lemmas.Result.{IfOk-from_err}
 use Rattle.p3_fri_inputs.proofs.inputs.openings_by_query.Goals as goal
 
 abbrev fields_of : (g : Over) → Fields g.row.F.Denot g.row.EF.Denot
@@ -82,7 +83,7 @@ returns-in_default g c =
     let cs = claims_of (λ domain. domain.log_size) s.claims.now in
     let b = s.log_blowup in
     let q = get_or s.indices.now c.loop-j.j 0 in
-    let below : c.loop-j.j < length s.indices.now = omega arith in
+    let below : c.loop-j.j < length s.indices.now = c.loop-j-test.true in
     let share = own g (goal.at.returns-in_default g c).In-loop-j in
     let known = of_none c.in_ok-found.found _ _ c.in_default.is
     (c.in_ok-found.ensures q share.part) in
@@ -126,3 +127,15 @@ returns g c =
       c.loop-j.invariant.answers ∙ ap (λ k. tabulate k answer_at) last,
       λ i l. c.loop-j.invariant.constants i (omega (arith, l, last)),
     )
+
+-- where nothing is answered nothing is said of the answer
+pub returns-in_err-answers : goal.returns-in_err-answers
+returns-in_err-answers g c = IfOk-from_err c.from_residual.result _ c.from_residual.ensures.0
+
+pub returns-in_err-found : goal.returns-in_err-found
+returns-in_err-found g c =
+    IfOk-from_err c.from_residual-in_err-found.result _ c.from_residual-in_err-found.ensures.0
+
+pub returns-in_err-push : goal.returns-in_err-push
+returns-in_err-push g c =
+    IfOk-from_err c.from_residual-in_err-push.result _ c.from_residual-in_err-push.ensures.0

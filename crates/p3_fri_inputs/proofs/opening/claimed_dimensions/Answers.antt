@@ -10,6 +10,7 @@ use Rattle.p3_fri_relation.specs.Views.{matrix_claim}
 use Rattle.p3_fri_inputs.proofs.Places.{all_mapped_at}
 use Rattle.p3_fri_inputs.proofs.opening.claimed_dimensions.Given.{Over}
 use Rattle.p3_fri_inputs.proofs.opening.claimed_dimensions.Goals.{After-index-matrices-k-in-loop-k}
+use Rattle.std.proofs.lemmas.Result.{IfOk-from_err}
 use Rattle.p3_fri_inputs.proofs.opening.claimed_dimensions.Goals as goal
 
 is_small : (g : Over) (c : After-index-matrices-k-in-loop-k g)
@@ -38,7 +39,7 @@ loop-k-preserved g c =
     let b = c.args.log_blowup in
     let matrix = c.index-matrices-k-in-loop-k.result in
     let is = c.index-matrices-k-in-loop-k.is in
-    let below : k < length matrices = omega arith in
+    let below : k < length matrices = c.loop-k-test.true in
     let m = matrix_claim (λ domain. domain.log_size) matrix in
     let old = c.loop-k.dims.items in
     let made = λ (w : ℕ) (h : ℕ). (let d : Dimensions = record { width = w; height = h } in d) in
@@ -65,3 +66,8 @@ returns g c =
     (map (matrix_claim (λ domain. domain.log_size)) matrices) c.loop-k.k [] c.loop-k.dims.items
     (omega (arith, length-map matrices (matrix_claim (λ domain. domain.log_size))))
     c.loop-k.invariant
+
+-- where nothing is answered nothing is said of the answer
+pub returns-in_err-push : goal.returns-in_err-push
+returns-in_err-push g c =
+    IfOk-from_err c.from_residual-in_err-push.result _ c.from_residual-in_err-push.ensures.0

@@ -7,6 +7,7 @@ use Rattle.p3_fri_relation.specs.Views.{matrix_claim}
 use Rattle.algebra.proofs.Growing.{mapped_more, mapped_end}
 use Rattle.p3_fri_inputs.proofs.LogHeights.{greatest_within}
 use Rattle.p3_fri_inputs.proofs.Opened.{opened_by_shift}
+use Rattle.std.proofs.lemmas.Result.{IfOk-from_err}
 use Rattle.p3_fri_inputs.proofs.opening.opened_indices.Goals as goal
 
 pub overflow_sub-shift : goal.overflow_sub-shift
@@ -27,7 +28,7 @@ loop-j-preserved g c =
     let indices = c.args.indices.now in
     let q = get_or indices j 0 in
     let old = c.loop-j.opened.items in
-    let below : j < length indices = omega arith in
+    let below : j < length indices = c.loop-j-test.true in
     let small : q < 2 ^ top = c.requires.below j 0 below in
     mapped_more (opened_index b top ms) indices j q old c.push.new.self.items below
     (get_or_default indices j 0 q below) c.loop-j.invariant
@@ -40,3 +41,8 @@ returns g c =
     let ms = map (matrix_claim size) c.args.matrices.now in
     mapped_end (opened_index c.args.log_blowup c.args.log_global_max_height ms) c.args.indices.now
     c.loop-j.j [] c.loop-j.opened.items (omega arith) c.loop-j.invariant
+
+-- where nothing is answered nothing is said of the answer
+pub returns-in_err-push : goal.returns-in_err-push
+returns-in_err-push g c =
+    IfOk-from_err c.from_residual-in_err-push.result _ c.from_residual-in_err-push.ensures.0

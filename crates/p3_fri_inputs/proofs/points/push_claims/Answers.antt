@@ -12,6 +12,7 @@ use Rattle.p3_fri_inputs.proofs.Places.{of_none}
 use Rattle.algebra.proofs.Growing.{joined_pushed, joined_end}
 use Rattle.algebra.proofs.Lists.{entry_of_map}
 use Rattle.p3_fri_inputs.proofs.Openings.{joined_twice, all_of_one}
+use Rattle.std.proofs.lemmas.Result.{IfOk-from_err}
 use Rattle.p3_fri_inputs.proofs.points.push_claims.Goals as goal
 
 pub push_commitment-requires : goal.push_commitment-requires
@@ -22,7 +23,7 @@ push_commitment-requires g c =
     let cs = claims_of size claims in
     let it = c.index-claims-batch.result in
     let is = c.index-claims-batch.is in
-    let below : i < length claims = omega arith in
+    let below : i < length claims = c.loop-batch-test.true in
     let here : i < length cs = omega (arith, below, length-map claims (claim_of size)) in
     let e = claim_of size it in
     let is_c = entry_of_map (claim_of size) claims i it below is in
@@ -36,7 +37,7 @@ returns-in-Some g c =
     let cs = claims_of size claims in
     let it = c.index-claims-batch.result in
     let is = c.index-claims-batch.is in
-    let below : i < length claims = omega arith in
+    let below : i < length claims = c.loop-batch-test.true in
     let here : i < length cs = omega (arith, below, length-map claims (claim_of size)) in
     let e = claim_of size it in
     let is_c = entry_of_map (claim_of size) claims i it below is in
@@ -57,7 +58,7 @@ loop-batch-preserved g c =
     let cs = claims_of size claims in
     let it = c.index-claims-batch.result in
     let is = c.index-claims-batch.is in
-    let below : i < length claims = omega arith in
+    let below : i < length claims = c.loop-batch-test.true in
     let here : i < length cs = omega (arith, below, length-map claims (claim_of size)) in
     let e = claim_of size it in
     let is_c = entry_of_map (claim_of size) claims i it below is in
@@ -92,3 +93,7 @@ returns g c =
           ∙ ap (λ ds. c.args.differences.now.items ++ ds)
           (sym (joined_twice distance (λ d. d.matrices) cs)),
     )
+
+-- where nothing is answered nothing is said of the answer
+pub returns-in_err-matrix : goal.returns-in_err-matrix
+returns-in_err-matrix g c = IfOk-from_err c.from_residual.result _ c.from_residual.ensures.0

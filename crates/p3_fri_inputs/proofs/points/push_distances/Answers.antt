@@ -9,6 +9,7 @@ use Rattle.p3_pcs.specs.Claims.{point_claim}
 use Rattle.p3_fri_inputs.proofs.Places.{at_mapped, holds_next, holds_of_all}
 use Rattle.algebra.proofs.Growing.{mapped_next, mapped_end}
 use Rattle.algebra.proofs.Lists.{entry_of_map}
+use Rattle.std.proofs.lemmas.Result.{IfOk-from_err}
 use Rattle.p3_fri_inputs.proofs.points.push_distances.Goals as goal
 
 pub returns-then-is_zero : goal.returns-then-is_zero
@@ -20,7 +21,7 @@ returns-then-is_zero g c =
     let x = g.EF.ExtensionField.lift c.args.read in
     let z = c.index-points-k.result in
     let is = c.index-points-k.is in
-    let below : k < length points = omega arith in
+    let below : k < length points = c.loop-k-test.true in
     let distance = λ (z : PointClaim g.row.EF.Denot). sub K z.point x in
     let gap : c.sub-distance.result ≡ sub K z.point x =
     field.sub_law (get_or points k z).point c.from_base-x.result c.sub-distance.result
@@ -38,7 +39,7 @@ loop-k-preserved g c =
     let x = g.EF.ExtensionField.lift c.args.read in
     let z = c.index-points-k.result in
     let is = c.index-points-k.is in
-    let below : k < length points = omega arith in
+    let below : k < length points = c.loop-k-test.true in
     let distance = λ (z : PointClaim g.row.EF.Denot). sub K z.point x in
     let gap : c.sub-distance.result ≡ sub K z.point x =
     field.sub_law (get_or points k z).point c.from_base-x.result c.sub-distance.result
@@ -69,3 +70,7 @@ returns g c =
           c.loop-k.differences.items (omega (arith, length-map points point_claim))
           c.loop-k.invariant.pushed,
     )
+
+-- where nothing is answered nothing is said of the answer
+pub returns-in_err-push : goal.returns-in_err-push
+returns-in_err-push g c = IfOk-from_err c.from_residual.result _ c.from_residual.ensures.0

@@ -7,10 +7,10 @@ use Rattle.p3_fri_relation.specs.Heights.{log_height, matrices_of}
 use Rattle.p3_fri_relation.specs.QuotientSums.{point_read}
 use Rattle.p3_fri_relation.specs.Views.{claims_of}
 use Rattle.p3_fri_inputs.specs.Claims.{distances, IsApart}
-use Rattle.p3_fri_inputs.proofs.Openings.{all_of_one}
 use Rattle.p3_fri_inputs.proofs.Places.{of_some, of_none}
-use Rattle.p3_fri_inputs.proofs.Queries.{apart_agree, distances_agree}
+use Rattle.p3_fri_inputs.proofs.Queries.{apart_agree, distances_agree, met_by_query}
 use Rattle.p3_fri_inputs.proofs.points.push_queries.Given.{Over}
+use Rattle.std.proofs.lemmas.Result.{IfOk-from_err}
 use Rattle.p3_fri_inputs.proofs.points.push_queries.Goals as goal
 
 abbrev fields_of : (g : Over) → Fields g.row.F.Denot g.row.EF.Denot
@@ -27,41 +27,14 @@ fields_of g = record {
 
 pub returns-in-Some : goal.returns-in-Some
 returns-in-Some g c =
-    let b = c.args.log_blowup in
-    let top = c.args.log_global_max_height in
-    let indices = c.args.indices.now in
-    let j = c.loop-j.j in
-    let below : j < length indices = omega arith in
     let place = c.in-Some.place in
-    let met = of_some c.in_ok-place.field-0 place _ _ c.in-Some.is c.in_ok-place.ensures in
-    let inner = met.3 in
-    let point = inner.3 in
-    let low = subst (λ m. log_height b m ≤ top) inner.2
-    (all_of_one (λ m. log_height b m ≤ top)
-    (claims_of (λ domain. domain.log_size) c.args.claims.now) c.requires.heights place.0 met.0 met.1
-    (sym met.2) place.1 inner.0 inner.1) in (
-      met.0,
-      met.1,
-      met.2,
-      (
-        inner.0,
-        inner.1,
-        inner.2,
-        (
-          point.0,
-          point.1,
-          point.2,
-          (
-            j,
-            get_or indices j 0,
-            below,
-            get_or_default indices j (get_or indices j 0) 0 below,
-            point.3 ∙ ap g.EF.ExtensionField.lift (c.read_points.ensures (log_height b inner.0)
-                g.F.Field.ops.zero low),
-          ),
-        ),
-      ),
-    )
+    let zero = g.F.Field.ops.zero in
+    let lift = g.EF.ExtensionField.lift in
+    met_by_query (fields_of g) c.args.log_blowup c.args.log_global_max_height
+    (claims_of (λ domain. domain.log_size) c.args.claims.now) c.args.indices.now c.loop-j.j
+    (λ h. lift (get_or c.read_points.new.read h zero)) place.0 place.1 place.2
+    c.requires.heights c.loop-j-test.true (λ h low. ap lift (c.read_points.ensures h zero low))
+    (of_some c.in_ok-place.field-0 place _ _ c.in-Some.is c.in_ok-place.ensures)
 
 pub loop-j-preserved : goal.loop-j-preserved
 loop-j-preserved g c =
@@ -71,7 +44,7 @@ loop-j-preserved g c =
     let indices = c.args.indices.now in
     let j = c.loop-j.j in
     let q = get_or indices j 0 in
-    let below : j < length indices = omega arith in
+    let below = c.loop-j-test.true in
     let y = λ (h : ℕ).
     g.EF.ExtensionField.lift (get_or c.read_points.new.read h g.F.Field.ops.zero) in
     let agree : All (λ m. y (log_height b m) ≡ x q (log_height b m)) ms =
@@ -97,6 +70,10 @@ returns g c =
       λ i l d. c.loop-j.invariant.apart i (omega (arith, l)) d,
       joined_end (λ q. distances g.EF.Field.ops c.args.log_blowup
           (point_read (fields_of g) c.args.log_global_max_height q) ms) c.args.indices.now
-          c.loop-j.j c.args.differences.now.items c.loop-j.differences.items (omega arith)
+          c.loop-j.j c.args.differences.now.items c.loop-j.differences.items c.loop-j-test.false
           c.loop-j.invariant.pushed,
     )
+
+-- where nothing is answered nothing is said of the answer
+pub returns-in_err-place : goal.returns-in_err-place
+returns-in_err-place g c = IfOk-from_err c.from_residual.result _ c.from_residual.ensures.0

@@ -8,7 +8,7 @@ use Rattle.algebra.proofs.Lists.{entry_of_map}
 use Rattle.p3_pcs.specs.Claims.{point_claim}
 use Rattle.p3_fri_relation.specs.Views.{matrix_claim}
 use Rattle.p3_fri_inputs.specs.Claims.{claim_of}
-use Rattle.p3_fri_inputs.proofs.Commitments.{AreSummedFrom, IsAmong, terms_of, among, summed_next}
+use Rattle.p3_fri_inputs.proofs.Commitments.{AreSummedFrom, IsAmong, terms_of, among, summed_next, none_summed}
 use Rattle.p3_fri_inputs.proofs.Commitments.{ends_before}
 use Rattle.p3_fri_inputs.proofs.sums.add_commitment.Given.{Over}
 use Rattle.p3_fri_inputs.proofs.sums.add_commitment.Goals.{After-index, After-as_slice}
@@ -118,3 +118,18 @@ returns g c read later inverses before h d l =
     ∙ ap (λ (n : ℕ). val g.EF.Field.ops
     (terms_of g.EF.Field.ops g.EF.ExtensionField.lift c.args.log_blowup h (read h) (drop n ms)
     (drop n (lists c.args.rows.now)) ++ later h) c.args.ladder.now.alpha) last
+
+pub loop-k-init : goal.loop-k-init
+loop-k-init g c =
+    let ms = (claim_of (λ domain. domain.log_size) c.args.claim.now).matrices in
+    let items = c.args.claim.now.matrices in
+    none_summed g.EF.Field.ops g.EF.ExtensionField.lift c.args.log_blowup c.args.ladder.now.alpha ms
+    (lists c.args.rows.now) c.args.points.now.inverses.now c.args.sums.now c.len-k.result
+    (length c.args.points.now.claimed.now)
+    (omega (
+      arith,
+      c.len-k.ensures,
+      items.ok.0,
+      length-map items.items (matrix_claim (λ domain. domain.log_size)),
+    ))
+    (ap length c.requires.claimed)

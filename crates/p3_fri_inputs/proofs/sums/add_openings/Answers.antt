@@ -1,5 +1,5 @@
 use Rattle.std.proofs.Common.{◌≡◌, ℕ, ◌-◌, ◌<◌, ◌≤◌, [], drop, length, All, get_or, subst, sym, ap}
-use Rattle.std.proofs.Common.{◌∙◌, arith}
+use Rattle.std.proofs.Common.{◌∙◌, arith, rules}
 use Rattle.std.proofs.lemmas.List.{length-map}
 use Rattle.std.proofs.lemmas.List.Edits.{length-between}
 use Rattle.algebra.specs.Polynomial.{val}
@@ -74,8 +74,9 @@ offset_bounds-openings-i g c =
 pub bounds-openings-i : goal.bounds-openings-i
 bounds-openings-i g c = opening_there g (goal.at.bounds-openings-i g c).In-loop-i
 
-pub bounds-claimed-i : goal.bounds-claimed-i
-bounds-claimed-i g c =
+claimed_there : (g : Over) (c : In-loop-i g)
+    → c.loop-i.i - 1 < length c.args.claimed.now
+claimed_there g c =
     let s = c.args.setting.now in
     omega (
       arith,
@@ -83,6 +84,13 @@ bounds-claimed-i g c =
           (values_under g.EF.Field.ops g.EF.ExtensionField.lift s.log_blowup
           c.args.ladder.now.alpha) s.claims.now c.args.claimed.now c.requires.claimed,
     )
+
+pub bounds-claimed-i : goal.bounds-claimed-i
+bounds-claimed-i g c = claimed_there g (goal.at.bounds-claimed-i g c).In-loop-i
+
+pub offset_bounds-claimed-i : goal.offset_bounds-claimed-i
+offset_bounds-claimed-i g c =
+    search (rules, claimed_there g (goal.at.offset_bounds-claimed-i g c).In-loop-i)
 
 pub add_opening-requires-clause-readable : goal.add_opening-requires-clause-readable
 add_opening-requires-clause-readable g c =

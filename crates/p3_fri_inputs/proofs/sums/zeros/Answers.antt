@@ -1,5 +1,6 @@
 use Rattle.std.proofs.Common.{◌≡◌, ◌++◌, ◌∷◌, ◌∙◌, ℕ, [], length, sym, ap, ap₂, arith}
 use Rattle.algebra.proofs.Lists.{tabulate-next, length-tabulate}
+use Rattle.std.proofs.lemmas.Result.{IfOk-from_err}
 use Rattle.p3_fri_inputs.proofs.sums.zeros.Goals as goal
 
 pub loop-preserved : goal.loop-preserved
@@ -14,3 +15,12 @@ returns-clause-count g c =
     let zero = λ (h : ℕ). g.EF.Field.ops.zero in
     let last : c.loop.counter ≡ c.args.count = omega arith in
     c.loop.zeros.ok.0 ∙ ap length c.loop.invariant ∙ length-tabulate c.loop.counter zero ∙ last
+
+-- where nothing is answered nothing is said of the answer
+pub returns-in_err-push-clause-count : goal.returns-in_err-push-clause-count
+returns-in_err-push-clause-count g c =
+    IfOk-from_err c.from_residual-in_err-push.result _ c.from_residual-in_err-push.ensures.0
+
+pub returns-in_err-push-clause-items : goal.returns-in_err-push-clause-items
+returns-in_err-push-clause-items g c =
+    IfOk-from_err c.from_residual-in_err-push.result _ c.from_residual-in_err-push.ensures.0
