@@ -1,4 +1,4 @@
-use Rattle.std.proofs.Common.{◌≡◌, ◌^◌, ◌+◌, ◌≤◌, length, Some, sym, ap, ◌∙◌, subst, get_or, rules, unwrap_or}
+use Rattle.std.proofs.Common.{◌≡◌, ◌^◌, ◌+◌, ◌≤◌, length, Some, sym, ap, ◌∙◌, subst, get_or, unwrap_or}
 use Rattle.p3_matrix.specs.declared.dense.RowMajorMatrix.{RowMajorMatrix}
 use Rattle.p3_challenger_core.specs.Run.{moves}
 use Rattle.p3_fri_folding.specs.declared.error.FriProverError.{FriProverError}
@@ -11,6 +11,7 @@ use Rattle.p3_fri_prover.proofs.Folding.{height_of_rows}
 use Rattle.p3_field_core.proofs.IndexPowers.{exponents_agree}
 use Rattle.p3_fri_prover.proofs.prover.commit_phase.commit_round.Given.{Over}
 use Rattle.p3_fri_prover.proofs.prover.commit_phase.commit_round.Goals.{After-index-get_matrices-0}
+use Rattle.std.proofs.lemmas.Result.{IfOk-from_err}
 use Rattle.p3_fri_prover.proofs.prover.commit_phase.commit_round.Goals as goal
 
 pub commit_word-requires-clause-power_of_two : goal.commit_word-requires-clause-power_of_two
@@ -77,7 +78,8 @@ returns-clause-round g c = λ h whole.
     let before = state_of c.args.transcript.now in
     let zero = g.F.Field.ops.zero in
     let drawn = c.in-Ok.drawn in
-    let found : c.unwrap_or.result ≡ unwrap_or drawn.1 zero = search rules in
+    let found : c.unwrap_or.result ≡ unwrap_or drawn.1 zero =
+    c.unwrap_or.ensures ∙ ap (unwrap_or drawn.1) (c.ZERO.ensures ∙ g.met.F.Field.zero_law) in
     let same = same_leaves g (goal.at.returns-clause-round g c).After-index-get_matrices-0 in
     record {
       beta = drawn.0;
@@ -89,3 +91,29 @@ returns-clause-round g c = λ h whole.
       word_after = c.in_ok-word.ensures h ys (sym c.args.word.ok.0 ∙ whole)
           (ap (λ (x : RowMajorMatrix _). rows x) same ∙ made.ensures.rows_of_word);
     }
+
+-- where nothing is answered nothing is said of the answer
+pub returns-clause-refused : goal.returns-clause-refused
+returns-clause-refused g c = tt
+
+pub returns-in-Err-clause-round : goal.returns-in-Err-clause-round
+returns-in-Err-clause-round g c = tt
+
+pub returns-in-Err-clause-steps : goal.returns-in-Err-clause-steps
+returns-in-Err-clause-steps g c = tt
+
+pub returns-in_err-commitment-clause-round : goal.returns-in_err-commitment-clause-round
+returns-in_err-commitment-clause-round g c =
+    IfOk-from_err c.from_residual.result _ c.from_residual.ensures.0
+
+pub returns-in_err-commitment-clause-steps : goal.returns-in_err-commitment-clause-steps
+returns-in_err-commitment-clause-steps g c =
+    IfOk-from_err c.from_residual.result _ c.from_residual.ensures.0
+
+pub returns-in_err-word-clause-round : goal.returns-in_err-word-clause-round
+returns-in_err-word-clause-round g c =
+    IfOk-from_err c.from_residual-in_err-word.result _ c.from_residual-in_err-word.ensures.0
+
+pub returns-in_err-word-clause-steps : goal.returns-in_err-word-clause-steps
+returns-in_err-word-clause-steps g c =
+    IfOk-from_err c.from_residual-in_err-word.result _ c.from_residual-in_err-word.ensures.0

@@ -3,6 +3,7 @@ use Rattle.std.proofs.lemmas.List.{take_more, take_all}
 use Rattle.algebra.specs.Nested.{nested}
 use Rattle.p3_fri_prover.specs.Openings.{OpensBatch}
 use Rattle.algebra.proofs.Lists.{all_zip-push}
+use Rattle.std.proofs.lemmas.Result.{IfOk-from_err}
 use Rattle.p3_fri_prover.proofs.prover.openings.open_inputs.Goals as goal
 
 pub loop-datum-preserved : goal.loop-datum-preserved
@@ -25,3 +26,8 @@ returns g c =
     let xs = c.args.data_with_points.now in
     let all : take c.loop-datum.datum-index xs ≡ xs = take_all c.loop-datum.datum-index xs (omega arith) in
     rw all at c.loop-datum.invariant
+
+-- where nothing is answered nothing is said of the answer
+pub returns-in_err-push : goal.returns-in_err-push
+returns-in_err-push g c =
+    IfOk-from_err c.from_residual-in_err-push.result _ c.from_residual-in_err-push.ensures.0

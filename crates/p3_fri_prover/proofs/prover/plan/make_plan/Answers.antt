@@ -10,6 +10,7 @@ use Rattle.p3_fri_prover.specs.Proved.{fri_numbers}
 use Rattle.p3_fri_relation.specs.TallEnough.{IsTallEnough}
 use Rattle.p3_fri_prover.proofs.Inputs.{heights_unique, power_lengths}
 use Rattle.p3_fri_prover.proofs.Schedules.{final_polynomial_within, final_height_fits}
+use Rattle.std.proofs.lemmas.Result.{IfOk-from_err}
 use Rattle.p3_fri_prover.proofs.prover.plan.make_plan.Goals as goal
 
 pub check_heights-requires : goal.check_heights-requires
@@ -100,3 +101,36 @@ returns-in_err-seed-clause-refused g c = λ heights have.
     let residual = c.from_residual-in_err-seed in
     let told = err_from_is_err_and residual.result residual.ensures.1 in
     rw told.1 (inr (c.in-Ok.ensures.tall_enough heights have, told.2))
+
+-- where nothing is answered nothing is said of the answer
+pub returns-in_err-heights-clause-stream : goal.returns-in_err-heights-clause-stream
+returns-in_err-heights-clause-stream g c =
+    IfOk-from_err c.from_residual.result _ c.from_residual.ensures.0
+
+pub returns-in_err-heights-clause-turns : goal.returns-in_err-heights-clause-turns
+returns-in_err-heights-clause-turns g c =
+    IfOk-from_err c.from_residual.result _ c.from_residual.ensures.0
+
+pub returns-in_err-log_arities-clause-stream : goal.returns-in_err-log_arities-clause-stream
+returns-in_err-log_arities-clause-stream g c =
+    IfOk-from_err c.from_residual-in_err-log_arities.result _ c.from_residual-in_err-log_arities.ensures.0
+
+pub returns-in_err-log_arities-clause-turns : goal.returns-in_err-log_arities-clause-turns
+returns-in_err-log_arities-clause-turns g c =
+    IfOk-from_err c.from_residual-in_err-log_arities.result _ c.from_residual-in_err-log_arities.ensures.0
+
+pub returns-in_err-seed-clause-stream : goal.returns-in_err-seed-clause-stream
+returns-in_err-seed-clause-stream g c =
+    IfOk-from_err c.from_residual-in_err-seed.result _ c.from_residual-in_err-seed.ensures.0
+
+pub returns-in_err-seed-clause-turns : goal.returns-in_err-seed-clause-turns
+returns-in_err-seed-clause-turns g c =
+    IfOk-from_err c.from_residual-in_err-seed.result _ c.from_residual-in_err-seed.ensures.0
+
+pub returns-in_err-shape-clause-stream : goal.returns-in_err-shape-clause-stream
+returns-in_err-shape-clause-stream g c =
+    IfOk-from_err c.from_residual-in_err-shape.result _ c.from_residual-in_err-shape.ensures.0
+
+pub returns-in_err-shape-clause-turns : goal.returns-in_err-shape-clause-turns
+returns-in_err-shape-clause-turns g c =
+    IfOk-from_err c.from_residual-in_err-shape.result _ c.from_residual-in_err-shape.ensures.0

@@ -3,6 +3,7 @@ use Rattle.std.specs.Prelude.{All}
 use Rattle.std.specs.List.{AllZip}
 use Rattle.algebra.specs.Nested.{lists, nested}
 use Rattle.p3_fri_prover.specs.Openings.{IsOpenable, OpensRows, OpensBatch, index_into}
+use Rattle.std.proofs.lemmas.Result.{IfOk-from_err}
 use Rattle.p3_fri_prover.proofs.prover.prove.open_at_indices.Goals as goal
 
 pub open_inputs-requires-clause-positions : goal.open_inputs-requires-clause-positions
@@ -37,3 +38,40 @@ returns-clause-rounds_opened g c = λ k o datum matrix l only.
     (lists (get_or openings k o).sibling_values.items) (get_or openings k o).opening_proof)
     (c.deref-2.ensures.value ∙ c.in_ok-positions.ensures)
     (c.in_ok-commit_phase_openings.ensures.each k o datum matrix l only)
+
+-- where nothing is answered nothing is said of the answer
+pub returns-in_err-commit_phase_openings-clause-inputs_opened : goal.returns-in_err-commit_phase_openings-clause-inputs_opened
+returns-in_err-commit_phase_openings-clause-inputs_opened g c =
+    IfOk-from_err c.from_residual-in_err-commit_phase_openings.result _ c.from_residual-in_err-commit_phase_openings.ensures.0
+
+pub returns-in_err-commit_phase_openings-clause-rounds_counted : goal.returns-in_err-commit_phase_openings-clause-rounds_counted
+returns-in_err-commit_phase_openings-clause-rounds_counted g c =
+    IfOk-from_err c.from_residual-in_err-commit_phase_openings.result _ c.from_residual-in_err-commit_phase_openings.ensures.0
+
+pub returns-in_err-commit_phase_openings-clause-rounds_opened : goal.returns-in_err-commit_phase_openings-clause-rounds_opened
+returns-in_err-commit_phase_openings-clause-rounds_opened g c =
+    IfOk-from_err c.from_residual-in_err-commit_phase_openings.result _ c.from_residual-in_err-commit_phase_openings.ensures.0
+
+pub returns-in_err-input_openings-clause-inputs_opened : goal.returns-in_err-input_openings-clause-inputs_opened
+returns-in_err-input_openings-clause-inputs_opened g c =
+    IfOk-from_err c.from_residual-in_err-input_openings.result _ c.from_residual-in_err-input_openings.ensures.0
+
+pub returns-in_err-input_openings-clause-rounds_counted : goal.returns-in_err-input_openings-clause-rounds_counted
+returns-in_err-input_openings-clause-rounds_counted g c =
+    IfOk-from_err c.from_residual-in_err-input_openings.result _ c.from_residual-in_err-input_openings.ensures.0
+
+pub returns-in_err-input_openings-clause-rounds_opened : goal.returns-in_err-input_openings-clause-rounds_opened
+returns-in_err-input_openings-clause-rounds_opened g c =
+    IfOk-from_err c.from_residual-in_err-input_openings.result _ c.from_residual-in_err-input_openings.ensures.0
+
+pub returns-in_err-positions-clause-inputs_opened : goal.returns-in_err-positions-clause-inputs_opened
+returns-in_err-positions-clause-inputs_opened g c =
+    IfOk-from_err c.from_residual.result _ c.from_residual.ensures.0
+
+pub returns-in_err-positions-clause-rounds_counted : goal.returns-in_err-positions-clause-rounds_counted
+returns-in_err-positions-clause-rounds_counted g c =
+    IfOk-from_err c.from_residual.result _ c.from_residual.ensures.0
+
+pub returns-in_err-positions-clause-rounds_opened : goal.returns-in_err-positions-clause-rounds_opened
+returns-in_err-positions-clause-rounds_opened g c =
+    IfOk-from_err c.from_residual.result _ c.from_residual.ensures.0

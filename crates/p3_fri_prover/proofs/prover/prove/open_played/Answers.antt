@@ -4,6 +4,7 @@ use Rattle.std.specs.Prelude.{All}
 use Rattle.std.specs.List.{AllZip}
 use Rattle.algebra.specs.Nested.{lists, nested}
 use Rattle.p3_fri_prover.specs.Openings.{IsOpenable, OpensRows, OpensBatch, index_into}
+use Rattle.std.proofs.lemmas.Result.{IfOk-from_err}
 use Rattle.p3_fri_prover.proofs.prover.prove.open_played.Goals as goal
 
 pub open_at_indices-requires-clause-positions : goal.open_at_indices-requires-clause-positions
@@ -53,3 +54,36 @@ returns-clause-rounds_opened g c = λ k o datum matrix l only.
     (opened.ensures.rounds_opened k o datum matrix l
     (subst (λ xs. g.M.Mmcs.committed (get_or xs k datum) ≡ matrix ∷ [])
     (sym c.deref-2.ensures.value) only)))
+
+-- where nothing is answered nothing is said of the answer
+pub returns-in_err-input_openings-clause-batch_witness : goal.returns-in_err-input_openings-clause-batch_witness
+returns-in_err-input_openings-clause-batch_witness g c =
+    IfOk-from_err c.from_residual.result _ c.from_residual.ensures.0
+
+pub returns-in_err-input_openings-clause-commitments : goal.returns-in_err-input_openings-clause-commitments
+returns-in_err-input_openings-clause-commitments g c =
+    IfOk-from_err c.from_residual.result _ c.from_residual.ensures.0
+
+pub returns-in_err-input_openings-clause-final_poly : goal.returns-in_err-input_openings-clause-final_poly
+returns-in_err-input_openings-clause-final_poly g c =
+    IfOk-from_err c.from_residual.result _ c.from_residual.ensures.0
+
+pub returns-in_err-input_openings-clause-inputs_opened : goal.returns-in_err-input_openings-clause-inputs_opened
+returns-in_err-input_openings-clause-inputs_opened g c =
+    IfOk-from_err c.from_residual.result _ c.from_residual.ensures.0
+
+pub returns-in_err-input_openings-clause-query_witness : goal.returns-in_err-input_openings-clause-query_witness
+returns-in_err-input_openings-clause-query_witness g c =
+    IfOk-from_err c.from_residual.result _ c.from_residual.ensures.0
+
+pub returns-in_err-input_openings-clause-rounds_counted : goal.returns-in_err-input_openings-clause-rounds_counted
+returns-in_err-input_openings-clause-rounds_counted g c =
+    IfOk-from_err c.from_residual.result _ c.from_residual.ensures.0
+
+pub returns-in_err-input_openings-clause-rounds_opened : goal.returns-in_err-input_openings-clause-rounds_opened
+returns-in_err-input_openings-clause-rounds_opened g c =
+    IfOk-from_err c.from_residual.result _ c.from_residual.ensures.0
+
+pub returns-in_err-input_openings-clause-witnesses : goal.returns-in_err-input_openings-clause-witnesses
+returns-in_err-input_openings-clause-witnesses g c =
+    IfOk-from_err c.from_residual.result _ c.from_residual.ensures.0

@@ -1,5 +1,5 @@
 use Rattle.std.proofs.Common.{◌≡◌, ◌+◌, ◌-◌, ◌^◌, ◌<◌, ◌≤◌, ◌∙◌, ℕ, suc, length, take, sum, get_or}
-use Rattle.std.proofs.Common.{refl, sym, ap, subst, arith, Vec}
+use Rattle.std.proofs.Common.{refl, sym, ap, subst, Vec}
 use Rattle.std.proofs.Math.Nat.{le-add_left}
 use Rattle.std.proofs.lemmas.List.{take_all}
 use Rattle.p3_fri_transcript.specs.Steps.{FriNumbers}
@@ -12,12 +12,13 @@ use Rattle.p3_fri_prover.proofs.Committed.{can_fold_next, next_size, rounds_refu
 use Rattle.p3_fri_prover.proofs.prover.rounds.commit_rounds.Given.{Over}
 use Rattle.p3_fri_prover.proofs.prover.rounds.commit_rounds.Goals.{In-loop-log_arity}
 use Rattle.p3_field_core.proofs.IndexPowers.{exponents_agree}
+use Rattle.std.proofs.lemmas.Result.{IfOk-from_err}
 use Rattle.p3_fri_prover.proofs.prover.rounds.commit_rounds.Goals as goal
 
 -- a round is left
 below : (g : Over) (c : In-loop-log_arity g)
     → c.loop-log_arity.log_arity-index < length c.args.log_arities.now
-below g c = omega arith
+below g c = c.loop-log_arity-test.true
 
 -- so long is the word that the next round folds
 size : (g : Over) (c : In-loop-log_arity g) (top : ℕ) → c.args.word.len ≡ 2 ^ top
@@ -134,13 +135,39 @@ loop-log_arity-preserved g c =
 pub returns-clause-steps : goal.returns-clause-steps
 returns-clause-steps g c =
     all_rounds_taken g.EF.ExtensionField.DIMENSION (shape_of c.args.transcript.now)
-    (length c.args.log_arities.now) c.loop-log_arity.log_arity-index _ (omega arith)
+    (length c.args.log_arities.now) c.loop-log_arity.log_arity-index _ c.loop-log_arity-test.false
     c.loop-log_arity.invariant.steps
 
 pub returns-clause-rounds : goal.returns-clause-rounds
 returns-clause-rounds g c = λ top whole.
     let arities = c.args.log_arities.now in
     let i = c.loop-log_arity.log_arity-index in
-    let all : take i arities ≡ arities = take_all i arities (omega arith) in
+    let all : take i arities ≡ arities = take_all i arities c.loop-log_arity-test.false in
     let committed = c.loop-log_arity.invariant.so_far top whole in
     rw all at committed
+
+-- where nothing is answered nothing is said of the answer
+pub returns-clause-refused : goal.returns-clause-refused
+returns-clause-refused g c = tt
+
+pub returns-in-Err-clause-rounds : goal.returns-in-Err-clause-rounds
+returns-in-Err-clause-rounds g c = tt
+
+pub returns-in-Err-clause-steps : goal.returns-in-Err-clause-steps
+returns-in-Err-clause-steps g c = tt
+
+pub returns-in_err-rounds-clause-rounds : goal.returns-in_err-rounds-clause-rounds
+returns-in_err-rounds-clause-rounds g c =
+    IfOk-from_err c.from_residual.result _ c.from_residual.ensures.0
+
+pub returns-in_err-rounds-clause-steps : goal.returns-in_err-rounds-clause-steps
+returns-in_err-rounds-clause-steps g c =
+    IfOk-from_err c.from_residual.result _ c.from_residual.ensures.0
+
+pub returns-in_err-word-clause-rounds : goal.returns-in_err-word-clause-rounds
+returns-in_err-word-clause-rounds g c =
+    IfOk-from_err c.from_residual-in_err-word.result _ c.from_residual-in_err-word.ensures.0
+
+pub returns-in_err-word-clause-steps : goal.returns-in_err-word-clause-steps
+returns-in_err-word-clause-steps g c =
+    IfOk-from_err c.from_residual-in_err-word.result _ c.from_residual-in_err-word.ensures.0
