@@ -28,3 +28,10 @@ loop-row-preserved g c =
     grind (arith, common_steps) in
     subst (λ rows. map (map canonical) (lists rows) ≡ take (c.loop-row.row + 1) (lists c.args.rows.now))
     (sym pushed) more
+
+-- where nothing is answered nothing is said of the answer
+pub returns-in-Err-elements_from_plain-clause-numbers : goal.returns-in-Err-elements_from_plain-clause-numbers
+returns-in-Err-elements_from_plain-clause-numbers g c = tt
+
+pub returns-then-is_err-clause-numbers : goal.returns-then-is_err-clause-numbers
+returns-then-is_err-clause-numbers g c = tt
