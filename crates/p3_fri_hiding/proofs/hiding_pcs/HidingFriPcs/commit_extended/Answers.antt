@@ -7,6 +7,7 @@ use Rattle.p3_fri_hiding.specs.Commitments.{AreExtended}
 use Rattle.p3_fri_hiding.proofs.Committed.{all_fit}
 use Rattle.p3_fri_hiding.proofs.NewData.{of_scheme}
 use Rattle.p3_fri_hiding.proofs.hiding_pcs.HidingFriPcs.commit_extended.Given.{Over}
+use Rattle.std.proofs.lemmas.Result.{IfOk-from_err}
 use Rattle.p3_fri_hiding.proofs.hiding_pcs.HidingFriPcs.commit_extended.Goals as goal
 
 abbrev fields_of : (g : Over) → Fields g.row.F.Denot g.row.EF.Denot
@@ -57,3 +58,27 @@ returns-clause-honest g c =
     (all_fit g.F.TwoAdicField.TWO_ADICITY c.args.self.now.fri.log_blowup (λ d. d.log_size)
     c.args.evaluations.items c.requires.heights c.requires.within)
     c.in_ok-commitment.ensures.words)
+
+-- where nothing is answered nothing is said of the answer
+pub returns-clause-refused : goal.returns-clause-refused
+returns-clause-refused g c = tt
+
+pub returns-in_err-commitment-clause-commitment : goal.returns-in_err-commitment-clause-commitment
+returns-in_err-commitment-clause-commitment g c =
+    IfOk-from_err c.from_residual.result _ c.from_residual.ensures.0
+
+pub returns-in_err-commitment-clause-data : goal.returns-in_err-commitment-clause-data
+returns-in_err-commitment-clause-data g c =
+    IfOk-from_err c.from_residual.result _ c.from_residual.ensures.0
+
+pub returns-in_err-commitment-clause-honest : goal.returns-in_err-commitment-clause-honest
+returns-in_err-commitment-clause-honest g c =
+    IfOk-from_err c.from_residual.result _ c.from_residual.ensures.0
+
+pub returns-in_err-commitment-clause-of_scheme : goal.returns-in_err-commitment-clause-of_scheme
+returns-in_err-commitment-clause-of_scheme g c =
+    IfOk-from_err c.from_residual.result _ c.from_residual.ensures.0
+
+pub returns-in_err-commitment-clause-words : goal.returns-in_err-commitment-clause-words
+returns-in_err-commitment-clause-words g c =
+    IfOk-from_err c.from_residual.result _ c.from_residual.ensures.0

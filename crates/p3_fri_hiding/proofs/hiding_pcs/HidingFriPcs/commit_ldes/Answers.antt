@@ -129,3 +129,6 @@ returns-in_err-commitment-clause-polynomials g c =
 pub returns-in_err-commitment-clause-readable : goal.returns-in_err-commitment-clause-readable
 returns-in_err-commitment-clause-readable g c =
     IfOk-from_err c.from_residual-in_err-commitment.result _ c.from_residual-in_err-commitment.ensures.0
+
+pub returns-clause-refused : goal.returns-clause-refused
+returns-clause-refused g c = tt

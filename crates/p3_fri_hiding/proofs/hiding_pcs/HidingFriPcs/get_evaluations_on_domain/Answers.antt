@@ -77,3 +77,7 @@ returns-clause-values g c words =
     (c.in_ok-without_last_cols.ensures.rows
     ∙ ap (λ n. map (λ row. take (matrix_width c.in_ok-values.values - n) row) (rows c.in_ok-values.values))
     c.hidden_columns-hidden.ensures))
+
+-- where nothing is answered nothing is said of the answer
+pub returns-clause-refused : goal.returns-clause-refused
+returns-clause-refused g c = tt

@@ -227,3 +227,9 @@ returns-in_err-pair-clause-openable g c =
 pub returns-in_err-pair-clause-honest : goal.returns-in_err-pair-clause-honest
 returns-in_err-pair-clause-honest g c =
     IfOk-from_err c.from_residual-in_err-pair.result _ c.from_residual-in_err-pair.ensures.0
+
+pub returns-clause-refused : goal.returns-clause-refused
+returns-clause-refused g c = tt
+
+pub returns-clause-unmoved : goal.returns-clause-unmoved
+returns-clause-unmoved g c = tt

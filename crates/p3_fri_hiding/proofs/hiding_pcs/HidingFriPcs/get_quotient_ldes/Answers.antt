@@ -151,3 +151,9 @@ returns-in_err-quotient_ldes-clause-openable g c =
 pub returns-in_err-quotient_ldes-clause-low_degree : goal.returns-in_err-quotient_ldes-clause-low_degree
 returns-in_err-quotient_ldes-clause-low_degree g c =
     IfOk-from_err c.from_residual-in_err-quotient_ldes.result _ c.from_residual-in_err-quotient_ldes.ensures.0
+
+pub returns-clause-refused : goal.returns-clause-refused
+returns-clause-refused g c = tt
+
+pub returns-clause-unmoved : goal.returns-clause-unmoved
+returns-clause-unmoved g c = tt
