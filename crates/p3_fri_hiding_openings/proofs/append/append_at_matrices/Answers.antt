@@ -1,4 +1,4 @@
-use Rattle.std.proofs.Common.{◌≡◌, ◌<◌, map, length, get_or, ◌∙◌, sym, ap₂, subst, arith}
+use Rattle.std.proofs.Common.{◌≡◌, ◌<◌, map, length, get_or, ◌∙◌, sym, ap₂, subst, arith, rules}
 use Rattle.std.proofs.lemmas.List.{length-map}
 use Rattle.algebra.specs.Nested.{lists, nested}
 use Rattle.algebra.proofs.Lists.{entry_of_map}
@@ -64,3 +64,13 @@ loop-i-preserved g c =
           c.args.expected (matrix_claim (λ d. d.log_size) (get_or ys i y)) (lists zs))
           c.as_slice-random.ensures.value c.in-Ok.ensures.fits));
     }
+
+pub offset_bounds-claims-i : goal.offset_bounds-claims-i
+offset_bounds-claims-i g c = search (rules, c.loop-i-test.true)
+
+-- where nothing is answered nothing is said of the answer
+pub returns-in-Err-clause-appended : goal.returns-in-Err-clause-appended
+returns-in-Err-clause-appended g c = tt
+
+pub returns-in-Err-clause-fits : goal.returns-in-Err-clause-fits
+returns-in-Err-clause-fits g c = tt

@@ -1,4 +1,4 @@
-use Rattle.std.proofs.Common.{◌≡◌, ◌≤◌, ◌/◌, ℕ, length, ◌∙◌, sym, subst}
+use Rattle.std.proofs.Common.{◌≡◌, ◌≤◌, ◌/◌, ℕ, length, ◌∙◌, refl, sym, subst}
 use Rattle.std.proofs.lemmas.List.{length-map}
 use Rattle.algebra.specs.Nested.{lists}
 use Rattle.p3_fri_masks.specs.Budget.{required_height}
@@ -25,3 +25,17 @@ returns-in-Ok-clause-fits g c =
           ∙ c.if-random-num_opening_points.false ∙ counted)
           (when_none c.wrong_count.result _ _ c.wrong_count.ensures c.in_default.not-Some);
     }
+
+pub returns-then-random-num_opening_points-clause-stands :
+    goal.returns-then-random-num_opening_points-clause-stands
+returns-then-random-num_opening_points-clause-stands g c =
+    let points = c.args.claim.now.points in (
+      refl,
+      refl,
+      record {
+        expected_is = c.len-num_opening_points.ensures ∙ points.ok.0
+            ∙ sym (length-map points.items point_claim);
+        got_is = sym (length-map c.args.random.now (λ vector. vector.items));
+        differ = λ same. c.if-random-num_opening_points.true (sym same);
+      },
+    )

@@ -127,3 +127,16 @@ returns-clause-fits g c =
     ))
     (omega (arith, c.requires, length-map rs (λ vector. nested vector.items)))
     c.loop-i.invariant.fits
+
+-- where nothing is answered nothing is said of the answer
+pub returns-in-Err-clause-appended : goal.returns-in-Err-clause-appended
+returns-in-Err-clause-appended g c = tt
+
+pub returns-in-Err-clause-fits : goal.returns-in-Err-clause-fits
+returns-in-Err-clause-fits g c = tt
+
+pub returns-then-got-expected-clause-appended : goal.returns-then-got-expected-clause-appended
+returns-then-got-expected-clause-appended g c = tt
+
+pub returns-then-got-expected-clause-fits : goal.returns-then-got-expected-clause-fits
+returns-then-got-expected-clause-fits g c = tt

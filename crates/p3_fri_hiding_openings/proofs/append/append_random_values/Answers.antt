@@ -64,3 +64,17 @@ returns-clause-stands g c =
     (HidingFaults c.args.num_random_codewords c.args.num_queries g.EF.ExtensionField.DIMENSION
     index (claims_of (λ d. d.log_size) c.args.claims.now) (opened_values c.args.random.now))) same
     c.append_at_rounds.ensures.stands
+
+pub returns-then-random-claims-clause-stands : goal.returns-then-random-claims-clause-stands
+returns-then-random-claims-clause-stands g c = record {
+  expected_is = sym (length-map c.args.claims.now (commitment_claim (λ d. d.log_size)));
+  got_is = sym (length-map c.args.random.now (λ vector. nested vector.items));
+  differ = λ same. c.if-random-claims.true (sym same);
+}
+
+pub returns-then-index-claims-clause-stands : goal.returns-then-index-claims-clause-stands
+returns-then-index-claims-clause-stands g c = (
+  c.in-Some.is,
+  sym (length-map c.args.claims.now (commitment_claim (λ d. d.log_size))),
+  c.if-index-claims.true,
+)

@@ -18,10 +18,11 @@ use Rattle.p3_fri_hiding_openings.proofs.Accepted.{honest_shown, sizes_inside}
 use Rattle.p3_fri_hiding_openings.proofs.Inside.{inside_marked}
 use Rattle.p3_fri_hiding_openings.proofs.Openable.{honest_inside, openable_inside}
 use Rattle.p3_fri_hiding_openings.proofs.Passed.{refused_fails}
-use Rattle.p3_fri_hiding_openings.proofs.Stopped.{by_opening}
+use Rattle.p3_fri_hiding_openings.proofs.Stopped.{by_opening, by_checks, moved_at}
 use Rattle.p3_fri_hiding_openings.proofs.opening.open_hiding_requests.Given.{Over}
 use Rattle.p3_fri_hiding_openings.proofs.opening.open_hiding_requests.Goals.{After-mark_all}
 use Rattle.p3_fri_hiding_openings.proofs.opening.open_hiding_requests.Goals.{After-split_opening}
+use Rattle.std.proofs.lemmas.Result.{IfOk-from_err}
 use Rattle.p3_fri_hiding_openings.proofs.opening.open_hiding_requests.Goals as goal
 
 abbrev fields_of : (g : Over) → Fields g.row.F.Denot g.row.EF.Denot
@@ -201,3 +202,53 @@ returns-clause-untouched g c =
     IfErr-weaker c.split_opening.result _ _
     (λ e is leaves. absurd (subst (λ x. LeavesHidingState x) is leaves))
     c.split_opening.ensures.refused
+
+-- where nothing is answered nothing is said of the answer
+pub returns-in_err-check_requests-clause-kept : goal.returns-in_err-check_requests-clause-kept
+returns-in_err-check_requests-clause-kept g c =
+    IfOk-from_err c.from_residual.result _ c.from_residual.ensures.0
+
+pub returns-in_err-check_requests-clause-values : goal.returns-in_err-check_requests-clause-values
+returns-in_err-check_requests-clause-values g c =
+    IfOk-from_err c.from_residual.result _ c.from_residual.ensures.0
+
+pub returns-in_err-opening-clause-kept : goal.returns-in_err-opening-clause-kept
+returns-in_err-opening-clause-kept g c =
+    IfOk-from_err c.from_residual-in_err-opening.result _ c.from_residual-in_err-opening.ensures.0
+
+pub returns-in_err-opening-clause-values : goal.returns-in_err-opening-clause-values
+returns-in_err-opening-clause-values g c =
+    IfOk-from_err c.from_residual-in_err-opening.result _ c.from_residual-in_err-opening.ensures.0
+
+pub returns-in_err-check_requests-clause-accepted : goal.returns-in_err-check_requests-clause-accepted
+returns-in_err-check_requests-clause-accepted g c honest =
+    IfOk-from_err c.from_residual.result _ c.from_residual.ensures.0
+
+pub returns-in_err-check_requests-clause-state : goal.returns-in_err-check_requests-clause-state
+returns-in_err-check_requests-clause-state g c honest =
+    IfOk-from_err c.from_residual.result _ c.from_residual.ensures.0
+
+pub returns-in_err-opening-clause-accepted : goal.returns-in_err-opening-clause-accepted
+returns-in_err-opening-clause-accepted g c honest =
+    IfOk-from_err c.from_residual-in_err-opening.result _ c.from_residual-in_err-opening.ensures.0
+
+pub returns-in_err-opening-clause-state : goal.returns-in_err-opening-clause-state
+returns-in_err-opening-clause-state g c honest =
+    IfOk-from_err c.from_residual-in_err-opening.result _ c.from_residual-in_err-opening.ensures.0
+
+pub returns-in_err-check_requests-clause-refused :
+    goal.returns-in_err-check_requests-clause-refused
+returns-in_err-check_requests-clause-refused g c =
+    by_checks (parts_at g c.args.params.now c.args.input_mmcs.now) c.args.num_random_codewords
+    c.args.challenger.now (map request c.args.requests.now) c.from_residual.result
+    c.in_err-check_requests.field-0.0 c.from_residual.ensures.1 c.in_err-check_requests.ensures
+
+pub returns-in_err-opening-clause-untouched : goal.returns-in_err-opening-clause-untouched
+returns-in_err-opening-clause-untouched g c =
+    moved_at _ c.from_residual-in_err-opening.result c.in_err-opening.field-0.0
+    c.from_residual-in_err-opening.ensures.1 c.in_err-opening.ensures.not_checked
+
+pub returns-in_err-opening-clause-unmoved : goal.returns-in_err-opening-clause-unmoved
+returns-in_err-opening-clause-unmoved g c =
+    moved_at _ c.from_residual-in_err-opening.result c.in_err-opening.field-0.0
+    c.from_residual-in_err-opening.ensures.1 c.in_err-opening.ensures.not_checked

@@ -3,6 +3,7 @@ use Rattle.algebra.specs.Nested.{nested}
 use Rattle.p3_fri_hiding_openings.specs.RandomValues.{count_at}
 use Rattle.p3_fri_hiding_openings.specs.Halves.{shown, kept_back}
 use Rattle.p3_fri_hiding_openings.proofs.Cut.{cut_more, cut_all, collected_all}
+use Rattle.std.proofs.lemmas.Result.{IfOk-from_err}
 use Rattle.p3_fri_hiding_openings.proofs.split.split_rounds.Goals as goal
 
 pub loop-i-preserved : goal.loop-i-preserved
@@ -42,3 +43,8 @@ returns-clause-kept g c =
     (λ round. map (map (kept_back (count_at r index round))))
     c.loop-i.i c.args.values.now c.loop-i.values c.loop-i.kept.items
     (omega arith) c.loop-i.invariant
+
+-- where nothing is answered nothing is said of the answer
+pub returns-in_err-push-clause-shown : goal.returns-in_err-push-clause-shown
+returns-in_err-push-clause-shown g c =
+    IfOk-from_err c.from_residual-in_err-push.result _ c.from_residual-in_err-push.ensures.0
