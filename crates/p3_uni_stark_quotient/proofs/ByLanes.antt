@@ -1,7 +1,8 @@
 -- Values lane by lane.
 use Rattle.std.proofs.Common.{◌≡◌, ℕ, zero, suc, refl, ◌+◌, ◌-◌, ◌*◌, ◌%◌, ◌<◌, ◌≤◌, List, [], ◌∷◌, ◌++◌}
 use Rattle.std.proofs.Common.{length, get_or, take, map, sym, ap, ap₂, ◌∙◌, arith, suc-add, max}
-use Rattle.std.proofs.Common.{length-append}
+use Rattle.std.proofs.Common.{length-append, ◌≢◌, below_more}
+use Rattle.std.proofs.Math.Nat.{mul-le-mul_right}
 use Rattle.std.specs.List.{flat_map}
 use Rattle.std.proofs.lemmas.List.{length-map, get_or-map, get_or_append_left, get_or-append_right}
 use Rattle.std.proofs.lemmas.List.{take_all, take-append-le}
@@ -22,6 +23,24 @@ pub wrapped_entry : {V : Type 0} (rows : List (List V)) (i p h : ℕ) → h ≡ 
 wrapped_entry [] i p h e f = refl
 wrapped_entry (r ∷ rows) i p h e f =
     ap (λ n. get_or (r ∷ rows) (i % n) []) (let g : p ≡ suc (length rows) = omega (arith, e, f) in g)
+
+-- one lane more is as expected
+pub lane_more : {V P : Type 0} (lane : P → ℕ → V) (before after : P) (x : V) (width i : ℕ)
+    (expected : ℕ → V) → i < width → ((k : ℕ) → k < i → lane before k ≡ expected k)
+    → lane after i ≡ x → ((l : ℕ) → l < width → l ≢ i → lane after l ≡ lane before l)
+    → x ≡ expected i → (k : ℕ) → k < i + 1 → lane after k ≡ expected k
+lane_more lane before after x width i expected within so_far here elsewhere is =
+    below_more (λ k. lane after k ≡ expected k) i
+    (λ k l. elsewhere k (omega (arith, l, within)) (λ e. omega (arith, e, l)) ∙ so_far k l)
+    (here ∙ is)
+
+-- a block lies within the rows where all do
+pub block_within : (b n width size : ℕ) → b < n → n * width ≤ size → b * width + width ≤ size
+block_within b n width size l all =
+    let more : suc b * width ≤ n * width = mul-le-mul_right width l in omega (arith, more, all)
+
+pub some_row : (first width l size : ℕ) → l < width → first + width ≤ size → 0 < size
+some_row first width l size within all = omega (arith, within, all)
 
 -- a list that is written over its first elements, of which there are as many
 pub written_over : {A : Type 0} (new rest : List A) (n : ℕ) → length new ≡ n

@@ -1,6 +1,6 @@
 -- What constraints see at a point of a coset.
 use Rattle.std.proofs.Common.{◌≡◌, ◌≢◌, ℕ, ◌+◌, ◌-◌, ◌*◌, ◌%◌, ◌^◌, ◌<◌, ◌≤◌, List, [], ◌∷◌, length, get_or}
-use Rattle.std.proofs.Common.{All, refl, sym, ap, ◌∙◌, ◌⊎◌, inl, inr, arith, mod-lt}
+use Rattle.std.proofs.Common.{All, refl, sym, ap, ◌∙◌, ◌⊎◌, inl, inr, arith, mod-lt, max}
 use Rattle.std.proofs.Math.Nat.{mod-eq_of_lt, add-mod_right}
 use Rattle.std.proofs.lemmas.List.{get_or_past}
 use Rattle.std.proofs.lemmas.Nat.{pow_below}
@@ -10,6 +10,7 @@ use Rattle.p3_air.specs.Nodes.{Entries}
 use Rattle.p3_air.specs.Satisfied.{row_at}
 use Rattle.p3_air.specs.Shapes.{HasWidths}
 use Rattle.p3_uni_stark_quotient.specs.Given.{OnCoset, entries_on, FitsCoset}
+use Rattle.p3_uni_stark_quotient.proofs.ByLanes.{wrapped_entry}
 
 pub row_inside : (row step height : ℕ) → row < height → step < height - row
     → row + step ≡ (row + step) % height
@@ -87,6 +88,23 @@ module _ {V : Type 0} (layout : AirLayout) (size step : ℕ) (given : OnCoset V)
             (i % length given.periodic) fits.periodic_widths
             (λ n. mod-lt i (fits.periodic_height n));
       }
+
+  -- of rows that are gone through again and again
+  pub trace_width : (i : ℕ) → 0 < size → length (row_at given.trace (i % size)) ≡ layout.width
+  trace_width i some = fits.widths (i % size) [] (omega (arith, some, fits.height))
+
+  pub preprocessed_width : (i : ℕ) → 0 < size
+      → length (row_at given.preprocessed (i % size)) ≡ layout.preprocessed_width
+  preprocessed_width i some =
+      width_at given.preprocessed layout.preprocessed_width (i % size) fits.preprocessed_widths
+      (λ n. omega (arith, some, fits.preprocessed_height n))
+
+  pub periodic_width : (i p h : ℕ) → h ≡ length given.periodic → p ≡ max h 1
+      → length (row_at given.periodic (i % p)) ≡ layout.num_periodic_columns
+  periodic_width i p h e f =
+      ap length (wrapped_entry given.periodic i p h e f)
+      ∙ width_at given.periodic layout.num_periodic_columns (i % length given.periodic)
+      fits.periodic_widths (λ n. mod-lt i (fits.periodic_height n))
 
 -- a power of two that fits a word, as a shift gives it
 pub shifted_one : (d top : ℕ) → d ≤ top → top < 64 → (1 * 2 ^ d) % 2 ^ 64 ≡ 2 ^ d

@@ -5,3 +5,4 @@ pub mod Folded
 pub mod Honest
 pub mod Ready
 pub mod Selecting
+pub mod NodeLanes

@@ -1,5 +1,5 @@
 use Rattle.std.proofs.Common.{◌≡◌, ℕ, suc, ◌+◌, ◌*◌, ◌<◌, ◌≤◌, ◌++◌, length, sym, ap, ap₂, subst, ◌∙◌, arith}
-use Rattle.std.proofs.Math.Nat.{mul-le-mul_right}
+use Rattle.std.proofs.Math.Nat.{mul-le-mul_right, le_antisymm}
 use Rattle.algebra.specs.Polynomial.{tabulate}
 use Rattle.algebra.proofs.Lists.{tabulate-equal}
 use Rattle.p3_air.specs.Shapes.{entries_of}
@@ -7,7 +7,7 @@ use Rattle.p3_uni_stark_identity.specs.Selectors.{AreSelectorsAt}
 use Rattle.p3_uni_stark_quotient.specs.Lanes.{lane_entries, selectors_in_lane}
 use Rattle.p3_uni_stark_quotient.specs.Prepared.{quotient_at}
 use Rattle.p3_uni_stark_quotient.specs.Quotient.{quotient_on_row}
-use Rattle.p3_uni_stark_quotient.proofs.ByLanes.{tabulate-append}
+use Rattle.p3_uni_stark_quotient.proofs.ByLanes.{tabulate-append, block_within}
 use Rattle.p3_uni_stark_quotient.proofs.blocks.push_blocks.Goals as goal
 
 pub loop-block-preserved : goal.loop-block-preserved
@@ -45,3 +45,27 @@ loop-block-preserved g c h n alpha x hyp =
     ∙ sym (tabulate-append (block * width) width value)
     ∙ ap (λ m. tabulate m value)
     (let e : block * width + width ≡ (block + 1) * width = omega arith in e)
+
+pub fill-requires-clause-rows : goal.fill-requires-clause-rows
+fill-requires-clause-rows g c =
+    let width = g.P.PackedField.WIDTH in
+    let block = c.loop-block.block in
+    let size = length c.args.prepared.now.selectors.now in
+    subst (λ n. block * c.WIDTH.result + width ≤ n) (sym c.requires.ready.columns.height)
+    (subst (λ w. block * w + width ≤ size) (sym c.WIDTH.ensures)
+    (block_within block c.args.blocks width size c.loop-block-test.true c.requires.blocks))
+
+pub returns : goal.returns
+returns g c h n alpha x hyp =
+    c.loop-block.invariant h n alpha x hyp
+    ∙ ap (λ b. tabulate (b * g.P.PackedField.WIDTH) (quotient_at g.F.Field.ops g.EF.Field.ops
+    c.args.prepared.now h n alpha x g.EF.ExtensionField.lift))
+    (le_antisymm c.loop-block.auto.block-end c.loop-block-test.false)
+
+pub pack_selectors-selectors-requires : goal.pack_selectors-selectors-requires
+pack_selectors-selectors-requires g c =
+    let width = g.P.PackedField.WIDTH in
+    let block = c.loop-block.block in
+    let size = length c.args.prepared.now.selectors.now in
+    subst (λ w. block * w + width ≤ size) (sym c.WIDTH.ensures)
+    (block_within block c.args.blocks width size c.loop-block-test.true c.requires.blocks)

@@ -5,6 +5,7 @@ use Rattle.algebra.specs.Polynomial.{tabulate}
 use Rattle.p3_matrix.specs.Rows.{rows_of}
 use Rattle.p3_uni_stark_quotient.proofs.Entries.{shifted_one}
 use Rattle.p3_uni_stark_quotient.proofs.Chunking.{dimension_some, row_next, rows_are, rows_whole}
+use Rattle.std.proofs.lemmas.Result.{IfOk-from_err}
 use Rattle.p3_uni_stark_quotient.proofs.chunks.quotient_chunk.Goals as goal
 
 pub loop-row-preserved : goal.loop-row-preserved
@@ -74,3 +75,20 @@ returns g c =
           (c.args.chunk + j * 2 ^ c.args.log_num_chunks) K.zero))) end;
       width = c.new.ensures.width ∙ c.DIMENSION-2.ensures;
     }
+
+-- where nothing is answered nothing is said of the answer
+pub returns-in_err-coefficients-clause-rows : goal.returns-in_err-coefficients-clause-rows
+returns-in_err-coefficients-clause-rows g c =
+    IfOk-from_err c.from_residual.result _ c.from_residual.ensures.0
+
+pub returns-in_err-coefficients-clause-width : goal.returns-in_err-coefficients-clause-width
+returns-in_err-coefficients-clause-width g c =
+    IfOk-from_err c.from_residual.result _ c.from_residual.ensures.0
+
+pub returns-in_err-push_coefficients-clause-rows : goal.returns-in_err-push_coefficients-clause-rows
+returns-in_err-push_coefficients-clause-rows g c =
+    IfOk-from_err c.from_residual-in_err-push_coefficients.result _ c.from_residual-in_err-push_coefficients.ensures.0
+
+pub returns-in_err-push_coefficients-clause-width : goal.returns-in_err-push_coefficients-clause-width
+returns-in_err-push_coefficients-clause-width g c =
+    IfOk-from_err c.from_residual-in_err-push_coefficients.result _ c.from_residual-in_err-push_coefficients.ensures.0

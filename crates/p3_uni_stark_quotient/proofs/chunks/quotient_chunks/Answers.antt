@@ -6,16 +6,18 @@ use Rattle.p3_uni_stark_quotient.proofs.Entries.{shifted_one}
 use Rattle.p3_uni_stark_quotient.proofs.Chunking.{mapped_next}
 use Rattle.p3_uni_stark_quotient.proofs.chunks.quotient_chunks.Goals as goal
 
-pub quotient_chunk-requires : goal.quotient_chunk-requires
-quotient_chunk-requires g c =
+pub quotient_chunk-requires-clause-sizes : goal.quotient_chunk-requires-clause-sizes
+quotient_chunk-requires-clause-sizes g c = c.requires.sizes
+
+pub quotient_chunk-requires-clause-count : goal.quotient_chunk-requires-clause-count
+quotient_chunk-requires-clause-count g c = c.requires.count
+
+pub quotient_chunk-requires-clause-chunk : goal.quotient_chunk-requires-clause-chunk
+quotient_chunk-requires-clause-chunk g c =
     let sizes = c.requires.sizes in
     let step = shifted_one c.args.log_num_chunks 63 (omega (arith, sizes)) (omega arith) in
     let test = c.loop-chunk-test.true in
-    record {
-      sizes = sizes;
-      count = c.requires.count;
-      chunk = omega (arith, test, step);
-    }
+    omega (arith, test, step)
 
 pub loop-chunk-preserved : goal.loop-chunk-preserved
 loop-chunk-preserved g c = mapped_next (λ m. rows m) c.loop-chunk.chunks.items

@@ -5,6 +5,7 @@ use Rattle.p3_air.specs.declared.air.Rows.TheVariants as rows
 use Rattle.p3_air.specs.declared.air.Constraint.{Constraint}
 use Rattle.p3_uni_stark_quotient.specs.Lanes.{selected_in_lane}
 use Rattle.p3_uni_stark_quotient.proofs.ByLanes.{lanes_length, lane_sum, written_over}
+use Rattle.std.proofs.lemmas.Result.{IfOk-from_err}
 use Rattle.p3_uni_stark_quotient.proofs.lanes.sum_by_lanes.Goals as goal
 
 pub add_weighted_rows-requires : goal.add_weighted_rows-requires
@@ -61,3 +62,12 @@ returns-clause-sums g c l lane =
     (c.as_slice-entries.ensures.value ∙ c.in_ok-select_all_by_lanes.ensures)
     (c.add_weighted_rows.ensures l K.zero
     (omega (arith, lane, ap length zeros, length-tabulate width (λ _. K.zero))))
+
+-- where nothing is answered nothing is said of the answer
+pub returns-in_err-reset-clause-len : goal.returns-in_err-reset-clause-len
+returns-in_err-reset-clause-len g c =
+    IfOk-from_err c.from_residual-in_err-reset.result _ c.from_residual-in_err-reset.ensures.0
+
+pub returns-in_err-select_all_by_lanes-clause-len : goal.returns-in_err-select_all_by_lanes-clause-len
+returns-in_err-select_all_by_lanes-clause-len g c =
+    IfOk-from_err c.from_residual.result _ c.from_residual.ensures.0

@@ -1,5 +1,5 @@
-use Rattle.std.proofs.Common.{◌≡◌, ◌<◌, [], ◌∷◌, ◌++◌, length, map, sym, ap, ap₂, ◌∙◌, arith, slice_index_or}
-use Rattle.std.proofs.lemmas.List.{map-append, take_more}
+use Rattle.std.proofs.Common.{◌≡◌, ◌<◌, [], ◌∷◌, ◌++◌, length, map, sym, ap, ap₂, subst, ◌∙◌, ◌≤◌, arith, slice_index_or}
+use Rattle.std.proofs.lemmas.List.{map-append, take_more, take_all}
 use Rattle.p3_uni_stark_quotient.proofs.packed.pack_columns.Goals as goal
 
 pub loop-column-preserved : goal.loop-column-preserved
@@ -17,3 +17,12 @@ loop-column-preserved g c k row l =
     ∙ ap₂ (λ xs x. xs ++ x ∷ []) (c.loop-column.invariant k row l)
     (c.pack_column.ensures k zero row l)
     ∙ sym (take_more entries column zero within)
+
+pub returns : goal.returns
+returns g c l row within =
+    let column = c.loop-column.column in
+    let rows = c.args.rows.now in
+    let long = c.requires.width l row (subst (λ n. l < n) (sym c.requires.count) within) in
+    c.loop-column.invariant l row within
+    ∙ take_all column (slice_index_or rows l row).now
+    (subst (λ n. n ≤ column) (sym long) c.loop-column-test.false)

@@ -1,4 +1,6 @@
-use Rattle.std.proofs.Common.{[], ◌∷◌, ◌++◌, length, sym, ap, ap₂, subst, ◌∙◌}
+use Rattle.std.proofs.Common.{[], ◌∷◌, ◌++◌, length, sym, ap, ap₂, subst, ◌∙◌, rules}
+use Rattle.std.proofs.Math.Nat.{le_antisymm}
+use Rattle.algebra.specs.Polynomial.{tabulate}
 use Rattle.algebra.proofs.Lists.{tabulate-next}
 use Rattle.p3_air.specs.Shapes.{HasWidths}
 use Rattle.p3_uni_stark_quotient.specs.Given.{on_coset}
@@ -33,3 +35,13 @@ loop-row-preserved g c h n alpha x hyp start =
     ∙ ap (λ e. quotient_on_row F K lift prepared.air.now h n alpha e (x row))
     c.window_at-window.ensures)
     ∙ sym (tabulate-next row (quotient_at F K prepared h n alpha x lift))
+
+pub returns : goal.returns
+returns g c h n alpha x hyp start =
+    c.loop-row.invariant h n alpha x hyp start
+    ∙ ap (λ k. tabulate k (quotient_at g.F.Field.ops g.EF.Field.ops c.args.prepared.now h n alpha x
+    g.EF.ExtensionField.lift))
+    (le_antisymm (c.loop-row.auto.row-end c.requires.first) c.loop-row-test.false)
+
+pub offset_bounds-prepared-row : goal.offset_bounds-prepared-row
+offset_bounds-prepared-row g c = search (rules, c.loop-row-test.true)

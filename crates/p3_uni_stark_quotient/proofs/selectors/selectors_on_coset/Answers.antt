@@ -1,4 +1,4 @@
-use Rattle.std.proofs.Common.{◌≡◌, ◌^◌, length, map, sym, ap, ap₂, ◌∙◌, arith}
+use Rattle.std.proofs.Common.{◌≡◌, ◌+◌, ◌<◌, ◌^◌, length, map, subst, sym, ap, ap₂, ◌∙◌, arith}
 use Rattle.std.proofs.lemmas.List.{length_push}
 use Rattle.algebra.specs.Field.{pow, sub}
 use Rattle.algebra.specs.Polynomial.{tabulate}
@@ -10,6 +10,7 @@ use Rattle.p3_uni_stark_quotient.proofs.Selecting.{firsts_off, lasts_off, powers
 use Rattle.p3_uni_stark_quotient.proofs.Selecting.{each_pushed, selectors_are, lengths_are}
 use Rattle.p3_uni_stark_quotient.proofs.Selecting.{lengths_inverted, point_lengths}
 use Rattle.p3_uni_stark_quotient.proofs.Selecting.{point_lengths_inverted}
+use Rattle.std.proofs.lemmas.Result.{IfOk-from_err}
 use Rattle.p3_uni_stark_quotient.proofs.selectors.selectors_on_coset.Goals as goal
 
 pub inverse-last_point-requires : goal.inverse-last_point-requires
@@ -118,11 +119,11 @@ selectors_at_index-here-requires g c =
     c.as_slice-inv_last.result.now
     (c.as_slice-inv_last.ensures.value ∙ c.in_ok-all_from_last.ensures.inverses) in
     record {
-      vanishing = omega (arith, test, n1);
-      inv_vanishing = omega (arith, test, n2);
-      inv_first = omega (arith, test, n3);
-      from_last = omega (arith, test, n4);
-      inv_last = omega (arith, test, n5);
+      vanishing = subst (λ n. c.loop-i.i < n) (sym n1) test;
+      inv_vanishing = subst (λ n. c.loop-i.i < n) (sym n2) test;
+      inv_first = subst (λ n. c.loop-i.i < n) (sym n3) test;
+      from_last = subst (λ n. c.loop-i.i < n) (sym n4) test;
+      inv_last = subst (λ n. c.loop-i.i < n) (sym n5) test;
     }
 
 pub loop-i-preserved : goal.loop-i-preserved
@@ -148,12 +149,8 @@ loop-i-preserved g c =
     (c.exp_power_of_2-step_power.ensures
     ∙ ap (λ x. pow F x (2 ^ k)) c.two_adic_generator-generator.ensures) in
     record {
-      len = omega (
-        arith,
-        ap length c.in_ok-push.ensures.items,
-        length_push c.loop-i.selectors.items h.result,
-        invariant.len,
-      );
+      len = ap length c.in_ok-push.ensures.items ∙ length_push c.loop-i.selectors.items h.result
+          ∙ ap (λ n. n + 1) invariant.len;
       each = each_pushed
           (λ j x. AreSelectorsAt F (w k) (2 ^ k) (coset_point F r s j) x)
           c.loop-i.selectors.items c.push.new.self.items h.result i c.in_ok-push.ensures.items
@@ -191,3 +188,60 @@ returns-clause-selectors g c i d l =
     let auto = c.loop-i.auto in
     let size = c.size-count.ensures in
     c.loop-i.invariant.each i d (omega (arith, test, auto, size, l))
+
+-- where nothing is answered nothing is said of the answer
+pub returns-in_err-_from_first-clause-len : goal.returns-in_err-_from_first-clause-len
+returns-in_err-_from_first-clause-len g c =
+    IfOk-from_err c.from_residual-in_err-_from_first.result _ c.from_residual-in_err-_from_first.ensures.0
+
+pub returns-in_err-_from_first-clause-selectors : goal.returns-in_err-_from_first-clause-selectors
+returns-in_err-_from_first-clause-selectors g c =
+    IfOk-from_err c.from_residual-in_err-_from_first.result _ c.from_residual-in_err-_from_first.ensures.0
+
+pub returns-in_err-all_from_last-clause-len : goal.returns-in_err-all_from_last-clause-len
+returns-in_err-all_from_last-clause-len g c =
+    IfOk-from_err c.from_residual-in_err-all_from_last.result _ c.from_residual-in_err-all_from_last.ensures.0
+
+pub returns-in_err-all_from_last-clause-selectors : goal.returns-in_err-all_from_last-clause-selectors
+returns-in_err-all_from_last-clause-selectors g c =
+    IfOk-from_err c.from_residual-in_err-all_from_last.result _ c.from_residual-in_err-all_from_last.ensures.0
+
+pub returns-in_err-all_points-clause-len : goal.returns-in_err-all_points-clause-len
+returns-in_err-all_points-clause-len g c =
+    IfOk-from_err c.from_residual.result _ c.from_residual.ensures.0
+
+pub returns-in_err-all_points-clause-selectors : goal.returns-in_err-all_points-clause-selectors
+returns-in_err-all_points-clause-selectors g c =
+    IfOk-from_err c.from_residual.result _ c.from_residual.ensures.0
+
+pub returns-in_err-all_powers-clause-len : goal.returns-in_err-all_powers-clause-len
+returns-in_err-all_powers-clause-len g c =
+    IfOk-from_err c.from_residual-in_err-all_powers.result _ c.from_residual-in_err-all_powers.ensures.0
+
+pub returns-in_err-all_powers-clause-selectors : goal.returns-in_err-all_powers-clause-selectors
+returns-in_err-all_powers-clause-selectors g c =
+    IfOk-from_err c.from_residual-in_err-all_powers.result _ c.from_residual-in_err-all_powers.ensures.0
+
+pub returns-in_err-all_vanishing-clause-len : goal.returns-in_err-all_vanishing-clause-len
+returns-in_err-all_vanishing-clause-len g c =
+    IfOk-from_err c.from_residual-in_err-all_vanishing.result _ c.from_residual-in_err-all_vanishing.ensures.0
+
+pub returns-in_err-all_vanishing-clause-selectors : goal.returns-in_err-all_vanishing-clause-selectors
+returns-in_err-all_vanishing-clause-selectors g c =
+    IfOk-from_err c.from_residual-in_err-all_vanishing.result _ c.from_residual-in_err-all_vanishing.ensures.0
+
+pub returns-in_err-push-clause-len : goal.returns-in_err-push-clause-len
+returns-in_err-push-clause-len g c =
+    IfOk-from_err c.from_residual-in_err-push.result _ c.from_residual-in_err-push.ensures.0
+
+pub returns-in_err-push-clause-selectors : goal.returns-in_err-push-clause-selectors
+returns-in_err-push-clause-selectors g c =
+    IfOk-from_err c.from_residual-in_err-push.result _ c.from_residual-in_err-push.ensures.0
+
+pub returns-in_err-selectors-clause-len : goal.returns-in_err-selectors-clause-len
+returns-in_err-selectors-clause-len g c =
+    IfOk-from_err c.from_residual-in_err-selectors.result _ c.from_residual-in_err-selectors.ensures.0
+
+pub returns-in_err-selectors-clause-selectors : goal.returns-in_err-selectors-clause-selectors
+returns-in_err-selectors-clause-selectors g c =
+    IfOk-from_err c.from_residual-in_err-selectors.result _ c.from_residual-in_err-selectors.ensures.0

@@ -12,6 +12,7 @@ use Rattle.p3_uni_stark_quotient.specs.Prepared.{IsPreparedFor, quotient_at}
 use Rattle.p3_uni_stark_quotient.specs.Quotient.{quotient_on_row}
 use Rattle.p3_uni_stark_quotient.proofs.Entries.{shifted_one}
 use Rattle.p3_uni_stark_quotient.proofs.Ready.{is_ready}
+use Rattle.std.proofs.lemmas.Result.{IfOk-from_err}
 use Rattle.p3_uni_stark_quotient.proofs.values.quotient_values.Goals as goal
 
 pub push_blocks-requires-clause-ready : goal.push_blocks-requires-clause-ready
@@ -25,19 +26,13 @@ push_blocks-requires-clause-ready g c =
     let kept = c.in_ok-constraints.constraints.ok.0 in
     is_ready _ c.args.coset.log_size d (omega (arith, within, law)) (omega (arith, size))
     c.requires.well_formed c.requires.columns
-    (omega (arith, ap length c.as_slice-4.ensures.value, held, c.in_ok-all_selectors.ensures.len))
+    (ap length c.as_slice-4.ensures.value ∙ sym held ∙ c.in_ok-all_selectors.ensures.len)
     (shifted_one d top (omega (arith, size, within)) law)
     (c.as_slice-2.ensures.value ∙ c.in_ok-constraints.ensures
     ∙ ap (λ cs. reverse cs) c.as_slice.ensures.value)
-    (omega (
-      arith,
-      ap length c.as_slice-3.ensures.value,
-      ap length c.in_ok-all_powers.ensures,
-      length-tabulate c.len.result (λ i. pow g.EF.Field.ops c.args.alpha i),
-      c.len.ensures,
-      ap length c.as_slice-2.ensures.value,
-      kept,
-    ))
+    (ap length (c.as_slice-3.ensures.value ∙ c.in_ok-all_powers.ensures)
+    ∙ length-tabulate c.len.result (λ i. pow g.EF.Field.ops c.args.alpha i)
+    ∙ c.len.ensures ∙ kept ∙ sym (ap length c.as_slice-2.ensures.value))
 
 pub push_rows-requires-clause-ready : goal.push_rows-requires-clause-ready
 push_rows-requires-clause-ready g c =
@@ -50,19 +45,13 @@ push_rows-requires-clause-ready g c =
     let kept = c.in_ok-constraints.constraints.ok.0 in
     is_ready _ c.args.coset.log_size d (omega (arith, within, law)) (omega (arith, size))
     c.requires.well_formed c.requires.columns
-    (omega (arith, ap length c.as_slice-4.ensures.value, held, c.in_ok-all_selectors.ensures.len))
+    (ap length c.as_slice-4.ensures.value ∙ sym held ∙ c.in_ok-all_selectors.ensures.len)
     (shifted_one d top (omega (arith, size, within)) law)
     (c.as_slice-2.ensures.value ∙ c.in_ok-constraints.ensures
     ∙ ap (λ cs. reverse cs) c.as_slice.ensures.value)
-    (omega (
-      arith,
-      ap length c.as_slice-3.ensures.value,
-      ap length c.in_ok-all_powers.ensures,
-      length-tabulate c.len.result (λ i. pow g.EF.Field.ops c.args.alpha i),
-      c.len.ensures,
-      ap length c.as_slice-2.ensures.value,
-      kept,
-    ))
+    (ap length (c.as_slice-3.ensures.value ∙ c.in_ok-all_powers.ensures)
+    ∙ length-tabulate c.len.result (λ i. pow g.EF.Field.ops c.args.alpha i)
+    ∙ c.len.ensures ∙ kept ∙ sym (ap length c.as_slice-2.ensures.value))
 
 pub returns : goal.returns
 returns g c =
@@ -85,9 +74,9 @@ returns g c =
     let held = c.in_ok-all_selectors.all_selectors.ok.0 in
     let kept = c.in_ok-constraints.constraints.ok.0 in
     let long : length c.as_slice-4.result.now ≡ 2 ^ coset.log_size =
-    omega (arith, ap length c.as_slice-4.ensures.value, held, c.in_ok-all_selectors.ensures.len) in
+    ap length c.as_slice-4.ensures.value ∙ sym held ∙ c.in_ok-all_selectors.ensures.len in
     let many : c.len.result ≡ length c.as_slice-2.result.now =
-    omega (arith, c.len.ensures, ap length c.as_slice-2.ensures.value, kept) in
+    c.len.ensures ∙ kept ∙ sym (ap length c.as_slice-2.ensures.value) in
     let prepared : Prepared g.row.F.Denot g.row.EF.Denot = record {
       air = c.args.air;
       columns = c.args.columns.now;
@@ -115,3 +104,24 @@ returns g c =
     ∙ ap (λ s. tabulate (2 ^ coset.log_size) (λ i. quotient_on_row F K lift c.args.air.now (w k)
     (2 ^ k) alpha (entries_on given s i) (x i)))
     (shifted_one d top (omega (arith, size, within)) g.met.F.TwoAdicField.two_adicity_law)
+
+-- where nothing is answered nothing is said of the answer
+pub returns-in_err-all_powers : goal.returns-in_err-all_powers
+returns-in_err-all_powers g c =
+    IfOk-from_err c.from_residual-in_err-all_powers.result _ c.from_residual-in_err-all_powers.ensures.0
+
+pub returns-in_err-constraints : goal.returns-in_err-constraints
+returns-in_err-constraints g c =
+    IfOk-from_err c.from_residual-in_err-constraints.result _ c.from_residual-in_err-constraints.ensures.0
+
+pub returns-in_err-push_blocks : goal.returns-in_err-push_blocks
+returns-in_err-push_blocks g c =
+    IfOk-from_err c.from_residual-in_err-push_blocks.result _ c.from_residual-in_err-push_blocks.ensures.0
+
+pub returns-in_err-push_rows : goal.returns-in_err-push_rows
+returns-in_err-push_rows g c =
+    IfOk-from_err c.from_residual-in_err-push_rows.result _ c.from_residual-in_err-push_rows.ensures.0
+
+pub returns-in_err-values : goal.returns-in_err-values
+returns-in_err-values g c =
+    IfOk-from_err c.from_residual-in_err-values.result _ c.from_residual-in_err-values.ensures.0

@@ -5,8 +5,10 @@ use Rattle.p3_air.specs.Satisfied.{row_at}
 use Rattle.p3_air.specs.Shapes.{HasWidths}
 use Rattle.p3_uni_stark_quotient.specs.Given.{on_coset, rows_if_any, entries_on}
 use Rattle.p3_uni_stark_quotient.specs.Lanes.{in_lane}
-use Rattle.p3_uni_stark_quotient.proofs.ByLanes.{packed_widths, wrapped_entry}
-use Rattle.p3_uni_stark_quotient.proofs.Entries.{entries_same_in, fits_widths}
+use Rattle.p3_uni_stark_quotient.proofs.ByLanes.{packed_widths, wrapped_entry, some_row}
+use Rattle.p3_uni_stark_quotient.proofs.Entries.{entries_same_in, fits_widths, trace_width, preprocessed_width}
+use Rattle.p3_uni_stark_quotient.proofs.Entries.{periodic_width}
+use Rattle.std.proofs.lemmas.Result.{IfOk-from_err}
 use Rattle.p3_uni_stark_quotient.proofs.packed.PackedColumns.fill.Goals as goal
 
 pub returns-clause-entries : goal.returns-clause-entries
@@ -49,3 +51,58 @@ returns-clause-widths g c =
     (subst (λ e. HasWidths layout e) (sym (returns-clause-entries g c 0 some))
     (fits_widths layout (length given.trace) c.args.step given c.requires.fits (c.args.first + 0)
     (omega (arith, some, c.requires.rows))))
+
+-- where nothing is answered nothing is said of the answer
+pub returns-in_err-pack_rows-2-clause-widths : goal.returns-in_err-pack_rows-2-clause-widths
+returns-in_err-pack_rows-2-clause-widths g c =
+    IfOk-from_err c.from_residual-in_err-pack_rows-2.result _ c.from_residual-in_err-pack_rows-2.ensures.0
+
+pub returns-in_err-pack_rows-3-clause-widths : goal.returns-in_err-pack_rows-3-clause-widths
+returns-in_err-pack_rows-3-clause-widths g c =
+    IfOk-from_err c.from_residual-in_err-pack_rows-3.result _ c.from_residual-in_err-pack_rows-3.ensures.0
+
+pub returns-in_err-pack_rows-4-clause-widths : goal.returns-in_err-pack_rows-4-clause-widths
+returns-in_err-pack_rows-4-clause-widths g c =
+    IfOk-from_err c.from_residual-in_err-pack_rows-4.result _ c.from_residual-in_err-pack_rows-4.ensures.0
+
+pub returns-in_err-pack_rows-5-clause-widths : goal.returns-in_err-pack_rows-5-clause-widths
+returns-in_err-pack_rows-5-clause-widths g c =
+    IfOk-from_err c.from_residual-in_err-pack_rows-5.result _ c.from_residual-in_err-pack_rows-5.ensures.0
+
+pub returns-in_err-pack_rows-clause-widths : goal.returns-in_err-pack_rows-clause-widths
+returns-in_err-pack_rows-clause-widths g c =
+    IfOk-from_err c.from_residual.result _ c.from_residual.ensures.0
+
+pub pack_rows-requires-2-clause-width : goal.pack_rows-requires-2-clause-width
+pack_rows-requires-2-clause-width g c l within =
+    let given = on_coset c.args.columns.now in
+    let size = length given.trace in
+    subst (λ n. length (row_at given.trace ((c.args.first + c.args.step + l) % n)) ≡ c.args.layout.now.width)
+    (sym c.height-size.ensures)
+    (trace_width c.args.layout.now size c.args.step given c.requires.fits ((c.args.first + c.args.step + l))
+    (some_row c.args.first g.P.PackedField.WIDTH l size within c.requires.rows))
+
+pub pack_rows-requires-3-clause-width : goal.pack_rows-requires-3-clause-width
+pack_rows-requires-3-clause-width g c l within =
+    let given = on_coset c.args.columns.now in
+    let size = length given.trace in
+    subst (λ n. length (row_at given.preprocessed ((c.args.first + l) % n)) ≡ c.args.layout.now.preprocessed_width)
+    (sym c.height-size.ensures)
+    (preprocessed_width c.args.layout.now size c.args.step given c.requires.fits ((c.args.first + l))
+    (some_row c.args.first g.P.PackedField.WIDTH l size within c.requires.rows))
+
+pub pack_rows-requires-4-clause-width : goal.pack_rows-requires-4-clause-width
+pack_rows-requires-4-clause-width g c l within =
+    let given = on_coset c.args.columns.now in
+    let size = length given.trace in
+    subst (λ n. length (row_at given.preprocessed ((c.args.first + c.args.step + l) % n)) ≡ c.args.layout.now.preprocessed_width)
+    (sym c.height-size.ensures)
+    (preprocessed_width c.args.layout.now size c.args.step given c.requires.fits ((c.args.first + c.args.step + l))
+    (some_row c.args.first g.P.PackedField.WIDTH l size within c.requires.rows))
+
+pub pack_rows-requires-5-clause-width : goal.pack_rows-requires-5-clause-width
+pack_rows-requires-5-clause-width g c l within =
+    let given = on_coset c.args.columns.now in
+    periodic_width c.args.layout.now (length given.trace) c.args.step given c.requires.fits
+    (c.args.first + l) c.max-period.result c.height_of.result c.height_of.ensures
+    c.max-period.ensures
