@@ -1,5 +1,6 @@
 -- What whole runs find, and why they are refused, put together from what single calls did.
-use Rattle.std.proofs.Common.{◌≡◌, ◌≢◌, ℕ, List, Result, Ok, Err, Option, Some, IsSome, IsTrue, unwrap_or, sym, ap, ◌∙◌, subst}
+use Rattle.std.proofs.Common.{◌≡◌, ◌≢◌, ℕ, List, Result, Ok, Err, true, false, Option, Some, IsSome}
+use Rattle.std.proofs.Common.{IsTrue, unwrap_or, sym, ap, ◌∙◌, subst}
 use Rattle.std.specs.List.{flat_map}
 use Rattle.algebra.specs.Field.{FieldOps}
 use Rattle.p3_challenger_core.specs.Run.{Moves, observed_all}
@@ -27,6 +28,16 @@ ok_not_err is = absurd cc
 
 pub step_not_seed : {A E P : Type 0} {e : E} → ◌≡◌ {A = Result A (Refusal E)} (Err (Step e)) (Err Seed) → P
 step_not_seed is = absurd cc
+
+pub no_answer : {P : Type 0} → false ≡ true → P
+no_answer is = cc
+
+pub same_refusal : {A E : Type 0} {e f : E} → ◌≡◌ {A = Result A E} (Err e) (Err f) → e ≡ f
+same_refusal is = cc
+
+pub same_step : {A E : Type 0} {e f : E}
+    → ◌≡◌ {A = Result A (Refusal E)} (Err (Step e)) (Err (Step f)) → e ≡ f
+same_step is = cc
 
 module _ {C F E Com : Type 0} (m : Moves C F E Com) (coefficients : E → List F) (ops : FieldOps F) (d : ℕ) (shape : PcsNumbers) (test : FriNumbers) (c : C) (values : List E) where
   abbrev pub claimed : C

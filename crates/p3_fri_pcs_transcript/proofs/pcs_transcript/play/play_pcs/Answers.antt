@@ -9,7 +9,7 @@ use Rattle.p3_fri_pcs_transcript.specs.Shapes.{pcs_shape}
 use Rattle.p3_fri_pcs_transcript.specs.Steps.{PcsNumbers}
 use Rattle.p3_fri_pcs_transcript.proofs.ClaimTurns.{all_claims_left}
 use Rattle.p3_fri_pcs_transcript.proofs.PcsReplays.{pcs_ends}
-use Rattle.p3_fri_pcs_transcript.proofs.PcsRuns.{ok_not_err, step_not_seed}
+use Rattle.p3_fri_pcs_transcript.proofs.PcsRuns.{ok_not_err, step_not_seed, same_step}
 use Rattle.p3_fri_pcs_transcript.proofs.StepRuns.{seeded_by}
 use Rattle.p3_fri_pcs_transcript.proofs.pcs_transcript.play.play_pcs.Given.{Over}
 use Rattle.p3_fri_pcs_transcript.proofs.pcs_transcript.play.play_pcs.Goals as goal
@@ -61,7 +61,7 @@ returns-in-Err-played-clause-refused g c = λ error is_error.
     let seeded =
     seeded_by g.F.Field.ops g.C.CanObserve-1.observed g.EF.ExtensionField.DIMENSION c.args.challenger.now begun.result.challenger.now (pcs_shape c.args.shape) (pcs_shape begun.result.shape) _
     begun.ensures.starts.state c.in-Ok.ensures.stream begun.ensures.starts.shape in
-    let same : c.in-Err-played.refusal ≡ error = cc in
+    let same : c.in-Err-played.refusal ≡ error = same_step is_error in
     subst (λ e. PcsPlayRefused (moves_of g) g.EF.ExtensionField.coefficients g.F.Field.ops g.EF.ExtensionField.DIMENSION (pcs_shape c.args.shape) (fri_shape c.args.test) c.args.challenger.now
     (all_values c.args.opened_values.now.items) g.C.GrindingChallenger.solution c.args.commitments.now c.args.final_poly.now e) same
     (rw begun.ensures.starts.shape at (c.in-Err-played.ensures.refused c.args.challenger.now seeded))
@@ -82,3 +82,34 @@ returns-in-Ok-played-clause-unchanged g c = λ is. ok_not_err is
 
 pub returns-in-Err-played-clause-unchanged : goal.returns-in-Err-played-clause-unchanged
 returns-in-Err-played-clause-unchanged g c = λ is. step_not_seed is
+
+-- where nothing is answered nothing is said of the answer
+pub returns-in-Err-clause-betas : goal.returns-in-Err-clause-betas
+returns-in-Err-clause-betas g c = tt
+
+pub returns-in-Err-clause-found : goal.returns-in-Err-clause-found
+returns-in-Err-clause-found g c = tt
+
+pub returns-in-Err-clause-indices : goal.returns-in-Err-clause-indices
+returns-in-Err-clause-indices g c = tt
+
+pub returns-in-Err-clause-replay : goal.returns-in-Err-clause-replay
+returns-in-Err-clause-replay g c = tt
+
+pub returns-in-Err-clause-witnesses : goal.returns-in-Err-clause-witnesses
+returns-in-Err-clause-witnesses g c = tt
+
+pub returns-in-Err-played-clause-betas : goal.returns-in-Err-played-clause-betas
+returns-in-Err-played-clause-betas g c = tt
+
+pub returns-in-Err-played-clause-found : goal.returns-in-Err-played-clause-found
+returns-in-Err-played-clause-found g c = tt
+
+pub returns-in-Err-played-clause-indices : goal.returns-in-Err-played-clause-indices
+returns-in-Err-played-clause-indices g c = tt
+
+pub returns-in-Err-played-clause-replay : goal.returns-in-Err-played-clause-replay
+returns-in-Err-played-clause-replay g c = tt
+
+pub returns-in-Err-played-clause-witnesses : goal.returns-in-Err-played-clause-witnesses
+returns-in-Err-played-clause-witnesses g c = tt

@@ -11,7 +11,7 @@ use Rattle.p3_fri_pcs_transcript.specs.Shapes.{pcs_shape}
 use Rattle.p3_fri_pcs_transcript.specs.Steps.{PcsNumbers}
 use Rattle.p3_fri_pcs_transcript.proofs.ClaimTurns.{all_claims_left}
 use Rattle.p3_fri_pcs_transcript.proofs.PcsReplays.{pcs_ends}
-use Rattle.p3_fri_pcs_transcript.proofs.PcsRuns.{ok_not_err, step_not_seed, run_failed}
+use Rattle.p3_fri_pcs_transcript.proofs.PcsRuns.{ok_not_err, step_not_seed, no_answer, same_refusal, same_step, run_failed}
 use Rattle.p3_fri_pcs_transcript.proofs.StepRuns.{seeded_by}
 use Rattle.p3_fri_pcs_transcript.proofs.pcs_transcript.play.replay_pcs.Given.{Over}
 use Rattle.p3_fri_pcs_transcript.proofs.pcs_transcript.play.replay_pcs.Goals as goal
@@ -47,7 +47,8 @@ returns-in-Ok-replayed-clause-passes g c = λ started remembered.
     let seeded =
     seeded_by g.F.Field.ops g.C.CanObserve-1.observed g.EF.ExtensionField.DIMENSION c.args.challenger.now begun.result.challenger.now (pcs_shape c.args.shape) (pcs_shape begun.result.shape) _
     begun.ensures.starts.state c.in-Ok.ensures.stream begun.ensures.starts.shape in
-    let exact = rw begun.ensures.starts.shape at (c.in-Ok-replayed.ensures.passes c.args.challenger.now seeded (λ same. cc)) in
+    let exact = rw begun.ensures.starts.shape at
+    (c.in-Ok-replayed.ensures.passes c.args.challenger.now seeded (λ same. ok_not_err same)) in
     ((λ ok. exact.0 refl), λ held. refl)
 
 pub returns-in-Ok-replayed-clause-absorbed : goal.returns-in-Ok-replayed-clause-absorbed
@@ -65,8 +66,9 @@ returns-in-Err-replayed-clause-passes g c = λ started remembered.
     seeded_by g.F.Field.ops g.C.CanObserve-1.observed g.EF.ExtensionField.DIMENSION c.args.challenger.now begun.result.challenger.now (pcs_shape c.args.shape) (pcs_shape begun.result.shape) _
     begun.ensures.starts.state c.in-Ok.ensures.stream begun.ensures.starts.shape in
     let exact = rw begun.ensures.starts.shape at (c.in-Err-replayed.ensures.passes c.args.challenger.now seeded
-    (λ same. let is : c.in-Err-replayed.failure ≡ Fri OutOfMemory = cc in remembered (ap (λ f. Err (Step f)) is))) in
-    ((λ ok. cc), λ held. exact.1 held)
+    (λ same. let is : c.in-Err-replayed.failure ≡ Fri OutOfMemory = same_refusal same in
+    remembered (ap (λ f. Err (Step f)) is))) in
+    ((λ ok. no_answer ok), λ held. exact.1 held)
 
 pub returns-in-Err-replayed-clause-failure : goal.returns-in-Err-replayed-clause-failure
 returns-in-Err-replayed-clause-failure g c = λ error is_error.
@@ -75,7 +77,7 @@ returns-in-Err-replayed-clause-failure g c = λ error is_error.
     seeded_by g.F.Field.ops g.C.CanObserve-1.observed g.EF.ExtensionField.DIMENSION c.args.challenger.now begun.result.challenger.now (pcs_shape c.args.shape) (pcs_shape begun.result.shape) _
     begun.ensures.starts.state c.in-Ok.ensures.stream begun.ensures.starts.shape in
     let sent = c.args.messages in
-    let same : c.in-Err-replayed.failure ≡ error = cc in
+    let same : c.in-Err-replayed.failure ≡ error = same_step is_error in
     run_failed (moves_of g) g.EF.ExtensionField.coefficients g.F.Field.ops g.EF.ExtensionField.DIMENSION (pcs_shape c.args.shape) (fri_shape c.args.test) c.args.challenger.now (all_claimed c.args.claims.now)
     c.args.batch_witness sent.commitments.now sent.commit_witnesses.now sent.final_poly.now sent.query_witness
     c.in-Err-replayed.failure error c.replay_steps-replayed.new.transcript.challenger.now _ same (search rules)
@@ -97,3 +99,22 @@ returns-in-Ok-replayed-clause-failure g c = λ _ is. ok_not_err is
 
 pub returns-in-Err-replayed-clause-unchanged : goal.returns-in-Err-replayed-clause-unchanged
 returns-in-Err-replayed-clause-unchanged g c = λ is. step_not_seed is
+
+-- where nothing is answered nothing is said of the answer
+pub returns-in-Err-clause-betas : goal.returns-in-Err-clause-betas
+returns-in-Err-clause-betas g c = tt
+
+pub returns-in-Err-clause-indices : goal.returns-in-Err-clause-indices
+returns-in-Err-clause-indices g c = tt
+
+pub returns-in-Err-clause-replay : goal.returns-in-Err-clause-replay
+returns-in-Err-clause-replay g c = tt
+
+pub returns-in-Err-replayed-clause-betas : goal.returns-in-Err-replayed-clause-betas
+returns-in-Err-replayed-clause-betas g c = tt
+
+pub returns-in-Err-replayed-clause-indices : goal.returns-in-Err-replayed-clause-indices
+returns-in-Err-replayed-clause-indices g c = tt
+
+pub returns-in-Err-replayed-clause-replay : goal.returns-in-Err-replayed-clause-replay
+returns-in-Err-replayed-clause-replay g c = tt

@@ -1,4 +1,4 @@
-use Rattle.std.proofs.Common.{◌≡◌, Some, None, [], unwrap_or, refl, sym, ap, ◌∙◌, rules}
+use Rattle.std.proofs.Common.{◌≡◌, Some, None, [], unwrap_or, refl, sym, ap, ◌∙◌}
 use Rattle.p3_challenger_core.specs.Run.{Moves, moves}
 use Rattle.p3_fri_pow.proofs.Reached.{reaches_itself}
 use Rattle.p3_fri_transcript.specs.Shapes.{fri_shape}
@@ -26,7 +26,9 @@ returns-in-Ok-play_test-clause-replay g c = λ before seeded.
     let observed = c.claimed_openings.new.self.challenger.now in
     let inside = c.batch_phase.new.self.challenger.now in
     let played = c.in-Ok-play_test.test in
-    let found : c.unwrap_or.result ≡ unwrap_or c.in-Ok.drawn.1 ops.zero = search rules in
+    let found : c.unwrap_or.result ≡ unwrap_or c.in-Ok.drawn.1 ops.zero =
+    c.unwrap_or.ensures
+    ∙ ap (unwrap_or c.in-Ok.drawn.1) (c.ZERO.ensures ∙ g.met.F.Field.zero_law) in
     pcs_joined (moves_of g) g.EF.ExtensionField.coefficients ops g.EF.ExtensionField.DIMENSION shape (fri_shape c.args.test) before (all_values c.args.opened_values.now.items)
     (Some c.unwrap_or.result) c.args.commitments.now played.commit_witnesses.items c.args.final_poly.now (Some played.query_witness)
     c.args.transcript.now.challenger.now observed inside inside c.play_test.new.transcript.challenger.now _ _ _ seeded c.claimed_openings.ensures.state
@@ -42,7 +44,9 @@ returns-in-Ok-play_test-clause-found g c = λ before seeded.
     let observed = c.claimed_openings.new.self.challenger.now in
     let inside = c.batch_phase.new.self.challenger.now in
     let played = c.in-Ok-play_test.test in
-    let found : c.unwrap_or.result ≡ unwrap_or c.in-Ok.drawn.1 ops.zero = search rules in
+    let found : c.unwrap_or.result ≡ unwrap_or c.in-Ok.drawn.1 ops.zero =
+    c.unwrap_or.ensures
+    ∙ ap (unwrap_or c.in-Ok.drawn.1) (c.ZERO.ensures ∙ g.met.F.Field.zero_law) in
     let is = claimed_is (moves_of g) g.EF.ExtensionField.coefficients ops g.EF.ExtensionField.DIMENSION shape (fri_shape c.args.test) before values started observed seeded c.claimed_openings.ensures.state in
     let batch = batch_lent (moves_of g) g.EF.ExtensionField.coefficients ops g.EF.ExtensionField.DIMENSION shape (fri_shape c.args.test) before values (Some c.unwrap_or.result) c.args.commitments.now [] c.args.final_poly.now None
     started observed inside inside _ seeded c.claimed_openings.ensures.state
@@ -95,3 +99,28 @@ returns-in-Err-play_test-clause-reached g c =
     reaches_inside (moves_of g) g.EF.ExtensionField.coefficients (all_values c.args.opened_values.now.items) c.args.transcript.now.challenger.now c.claimed_openings.new.self.challenger.now
     (pcs_shape c.claimed_openings.new.self.shape).batch_pow_bits c.batch_phase.new.self.challenger.now _ _ (Some (unwrap_or c.in-Ok.drawn.1 g.F.Field.ops.zero))
     c.claimed_openings.ensures.state c.in-Ok.ensures.batch c.in-Err-play_test.ensures.reached
+
+-- where nothing is answered nothing is said of the answer
+pub returns-in-Err-clause-betas : goal.returns-in-Err-clause-betas
+returns-in-Err-clause-betas g c = tt
+
+pub returns-in-Err-clause-indices : goal.returns-in-Err-clause-indices
+returns-in-Err-clause-indices g c = tt
+
+pub returns-in-Err-clause-steps : goal.returns-in-Err-clause-steps
+returns-in-Err-clause-steps g c = tt
+
+pub returns-in-Err-clause-witnesses : goal.returns-in-Err-clause-witnesses
+returns-in-Err-clause-witnesses g c = tt
+
+pub returns-in-Err-play_test-clause-betas : goal.returns-in-Err-play_test-clause-betas
+returns-in-Err-play_test-clause-betas g c = tt
+
+pub returns-in-Err-play_test-clause-indices : goal.returns-in-Err-play_test-clause-indices
+returns-in-Err-play_test-clause-indices g c = tt
+
+pub returns-in-Err-play_test-clause-steps : goal.returns-in-Err-play_test-clause-steps
+returns-in-Err-play_test-clause-steps g c = tt
+
+pub returns-in-Err-play_test-clause-witnesses : goal.returns-in-Err-play_test-clause-witnesses
+returns-in-Err-play_test-clause-witnesses g c = tt

@@ -9,7 +9,7 @@ use Rattle.p3_fri_pcs_transcript.specs.Failures.{BatchFailure}
 use Rattle.p3_fri_pcs_transcript.specs.Replay.{BatchReplay, PcsReplay}
 use Rattle.p3_fri_pcs_transcript.specs.Shapes.{pcs_shape}
 use Rattle.p3_fri_pcs_transcript.proofs.PcsReplays.{batch_lent, pcs_joined, batch_passes, test_passes}
-use Rattle.p3_fri_pcs_transcript.proofs.PcsRuns.{claimed_is, test_failed}
+use Rattle.p3_fri_pcs_transcript.proofs.PcsRuns.{ok_not_err, no_answer, same_refusal, claimed_is, test_failed}
 use Rattle.p3_fri_pcs_transcript.proofs.StepRuns.{reaches_claimed, reaches_inside}
 use Rattle.p3_fri_pcs_transcript.proofs.pcs_transcript.steps.replay_steps.Given.{Over}
 use Rattle.p3_fri_pcs_transcript.proofs.pcs_transcript.steps.replay_steps.Goals as goal
@@ -31,7 +31,7 @@ replay_test-requires-clause-widths g c = rw (c.in-Ok-batch_phase.ensures.kept.sh
 pub returns-in-Err-batch_phase-clause-passes : goal.returns-in-Err-batch_phase-clause-passes
 returns-in-Err-batch_phase-clause-passes g c = λ before seeded remembered.
     let sent = c.args.messages in (
-      (λ ok. cc),
+      (λ ok. no_answer ok),
       λ held. (rw c.in-Ok.ensures.kept.shape at c.in-Err-batch_phase.ensures.passes).1
           (batch_passes (moves_of g) g.EF.ExtensionField.coefficients g.F.Field.ops g.EF.ExtensionField.DIMENSION (pcs_shape c.args.transcript.now.shape) (fri_shape c.args.test)
           before (all_claimed c.args.claims.now) c.args.batch_witness sent.commitments.now sent.commit_witnesses.now sent.final_poly.now sent.query_witness
@@ -64,7 +64,7 @@ returns-in-Ok-replay_test-clause-replay g c = λ before seeded.
 
 pub returns-in-Ok-replay_test-clause-passes : goal.returns-in-Ok-replay_test-clause-passes
 returns-in-Ok-replay_test-clause-passes g c = λ before seeded remembered.
-    let counts = (c.in-Ok-replay_test.ensures.passes (λ same. cc)).0 refl in (
+    let counts = (c.in-Ok-replay_test.ensures.passes (λ same. ok_not_err same)).0 refl in (
       (λ ok. record {
         commitment_count = counts.commitment_count;
         witness_count = counts.witness_count;
@@ -83,9 +83,9 @@ returns-in-Ok-replay_test-clause-reached g c =
 pub returns-in-Err-replay_test-clause-passes : goal.returns-in-Err-replay_test-clause-passes
 returns-in-Err-replay_test-clause-passes g c = λ before seeded remembered.
     let sent = c.args.messages in (
-      (λ ok. cc),
+      (λ ok. no_answer ok),
       λ held. (c.in-Err-replay_test.ensures.passes
-          (λ same. let is : c.in-Err-replay_test.failure ≡ OutOfMemory = cc in remembered (ap (λ f. Err (Fri f)) is))).1
+          (λ same. let is : c.in-Err-replay_test.failure ≡ OutOfMemory = same_refusal same in remembered (ap (λ f. Err (Fri f)) is))).1
           (record {
             commitment_count = held.commitment_count;
             witness_count = held.witness_count;
@@ -116,3 +116,22 @@ returns-in-Err-replay_test-clause-reached g c =
     reaches_inside (moves_of g) g.EF.ExtensionField.coefficients (all_claimed c.args.claims.now) c.args.transcript.now.challenger.now c.claimed_openings.new.self.challenger.now
     (pcs_shape c.claimed_openings.new.self.shape).batch_pow_bits c.batch_phase.new.self.challenger.now _ _ c.args.batch_witness
     c.in-Ok.ensures.state c.in-Ok-batch_phase.ensures.batch c.in-Err-replay_test.ensures.reached
+
+-- where nothing is answered nothing is said of the answer
+pub returns-in-Err-batch_phase-clause-betas : goal.returns-in-Err-batch_phase-clause-betas
+returns-in-Err-batch_phase-clause-betas g c = tt
+
+pub returns-in-Err-batch_phase-clause-indices : goal.returns-in-Err-batch_phase-clause-indices
+returns-in-Err-batch_phase-clause-indices g c = tt
+
+pub returns-in-Err-batch_phase-clause-steps : goal.returns-in-Err-batch_phase-clause-steps
+returns-in-Err-batch_phase-clause-steps g c = tt
+
+pub returns-in-Err-replay_test-clause-betas : goal.returns-in-Err-replay_test-clause-betas
+returns-in-Err-replay_test-clause-betas g c = tt
+
+pub returns-in-Err-replay_test-clause-indices : goal.returns-in-Err-replay_test-clause-indices
+returns-in-Err-replay_test-clause-indices g c = tt
+
+pub returns-in-Err-replay_test-clause-steps : goal.returns-in-Err-replay_test-clause-steps
+returns-in-Err-replay_test-clause-steps g c = tt

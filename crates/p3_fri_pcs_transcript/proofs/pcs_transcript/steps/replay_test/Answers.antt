@@ -6,6 +6,7 @@ use Rattle.p3_fri_transcript.specs.declared.transcript.play.Refusal.TheVariants.
 use Rattle.p3_fri_transcript.specs.Failures.{FriPasses}
 use Rattle.p3_fri_transcript.specs.Shapes.{fri_shape}
 use Rattle.p3_fri_transcript.specs.Steps.{fri_stream}
+use Rattle.p3_fri_pcs_transcript.proofs.PcsRuns.{ok_not_err, no_answer, same_refusal}
 use Rattle.p3_fri_pcs_transcript.proofs.StepRuns.{reaches_tested, reaches_lent}
 use Rattle.p3_fri_pcs_transcript.proofs.pcs_transcript.steps.replay_test.Given.{Over}
 use Rattle.p3_fri_pcs_transcript.proofs.pcs_transcript.steps.replay_test.Goals as goal
@@ -19,10 +20,10 @@ pub returns-in-Err-clause-passes : goal.returns-in-Err-clause-passes
 returns-in-Err-clause-passes g c = λ remembered.
     let sent = c.args.messages in
     let shape = fri_shape c.args.test in (
-      (λ ok. cc),
+      (λ ok. no_answer ok),
       λ held. (c.in-Err.ensures.passes
-          (λ same. let is : c.in-Err.refusal ≡ Seed = cc in remembered (ap Err (c.of_step.ensures.seed is)))
-          (λ same. let is : c.in-Err.refusal ≡ Step OutOfMemory = cc in remembered (ap Err (c.of_step.ensures.step OutOfMemory is)))).1
+          (λ same. let is : c.in-Err.refusal ≡ Seed = same_refusal same in remembered (ap Err (c.of_step.ensures.seed is)))
+          (λ same. let is : c.in-Err.refusal ≡ Step OutOfMemory = same_refusal same in remembered (ap Err (c.of_step.ensures.step OutOfMemory is)))).1
           (subst (λ s. FriPasses (moves_of g) g.EF.ExtensionField.coefficients shape s sent.commitments.now sent.commit_witnesses.now sent.final_poly.now sent.query_witness
           g.F.Field.ops (fri_stream g.EF.ExtensionField.DIMENSION shape)) (sym c.begin_delegate.ensures.value) held),
     )
@@ -31,7 +32,7 @@ pub returns-in-Ok-clause-reached : goal.returns-in-Ok-clause-reached
 returns-in-Ok-clause-reached g c =
     reaches_same _ _ _ _
     (reaches_tested (moves_of g) g.F.Field.ops g.EF.ExtensionField.DIMENSION (fri_shape c.args.test) c.args.transcript.now.challenger.now
-    c.begin_delegate.result.now c.replay_fri-tested.new.challenger c.begin_delegate.ensures.value (c.in-Ok.ensures.absorbed (λ same. cc)))
+    c.begin_delegate.result.now c.replay_fri-tested.new.challenger c.begin_delegate.ensures.value (c.in-Ok.ensures.absorbed (λ same. ok_not_err same)))
     (search rules)
 
 pub returns-in-Err-clause-reached : goal.returns-in-Err-clause-reached
@@ -39,3 +40,19 @@ returns-in-Err-clause-reached g c =
     reaches_lent (moves_of g) g.F.Field.ops g.EF.ExtensionField.DIMENSION (fri_shape c.args.test) c.args.transcript.now.challenger.now
     c.begin_delegate.result.now c.replay_fri-tested.new.challenger c.in-Err.refusal c.begin_delegate.ensures.value
     (λ s. c.in-Err.ensures.unchanged (ap Err s)) (λ no. c.in-Err.ensures.absorbed (λ s. no cc))
+
+-- where nothing is answered nothing is said of the answer
+pub returns-in-Err-clause-betas : goal.returns-in-Err-clause-betas
+returns-in-Err-clause-betas g c = tt
+
+pub returns-in-Err-clause-indices : goal.returns-in-Err-clause-indices
+returns-in-Err-clause-indices g c = tt
+
+pub returns-in-Err-clause-replay : goal.returns-in-Err-clause-replay
+returns-in-Err-clause-replay g c = tt
+
+pub returns-in-Err-clause-steps : goal.returns-in-Err-clause-steps
+returns-in-Err-clause-steps g c = tt
+
+pub returns-in-Ok-clause-failure : goal.returns-in-Ok-clause-failure
+returns-in-Ok-clause-failure g c = tt

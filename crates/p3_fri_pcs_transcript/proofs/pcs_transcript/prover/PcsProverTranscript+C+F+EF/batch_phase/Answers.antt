@@ -5,6 +5,7 @@ use Rattle.p3_challenger_fs.specs.declared.pattern.Length.TheVariants.{Scalar}
 use Rattle.p3_fri_pcs_transcript.specs.Shapes.{pcs_shape}
 use Rattle.p3_fri_pcs_transcript.proofs.ClaimTurns.{alpha_left, after_claims}
 use Rattle.p3_fri_pow.proofs.Turns.{next_of, rest_of}
+use Rattle.std.proofs.lemmas.Result.{IfOk-from_err}
 use Rattle.p3_fri_pcs_transcript.proofs.pcs_transcript.prover.PcsProverTranscript+C+F+EF.batch_phase.Goals as goal
 
 pub grind-requires-clause-next : goal.grind-requires-clause-next
@@ -26,3 +27,16 @@ unfolding pcs_shape
 returns-clause-steps g c =
     let d = g.EF.ExtensionField.DIMENSION in
     rest_of _ _ _ _ (c.in_ok-witness.ensures.steps (alpha_left d) (after_claims d (pcs_shape c.args.self.now.shape) _ c.requires.all_claims_played)) c.challenge_extension-challenge.ensures.steps
+
+-- where nothing is answered nothing is said of the answer
+pub returns-in_err-witness-clause-batch : goal.returns-in_err-witness-clause-batch
+returns-in_err-witness-clause-batch g c =
+    IfOk-from_err c.from_residual.result _ c.from_residual.ensures.0
+
+pub returns-in_err-witness-clause-steps : goal.returns-in_err-witness-clause-steps
+returns-in_err-witness-clause-steps g c =
+    IfOk-from_err c.from_residual.result _ c.from_residual.ensures.0
+
+pub returns-in_err-witness-clause-witness : goal.returns-in_err-witness-clause-witness
+returns-in_err-witness-clause-witness g c =
+    IfOk-from_err c.from_residual.result _ c.from_residual.ensures.0
