@@ -1,4 +1,5 @@
 pub mod Extensions
 pub mod Faultless
+pub mod Mapped
 pub mod Nested
 pub mod PassedOn

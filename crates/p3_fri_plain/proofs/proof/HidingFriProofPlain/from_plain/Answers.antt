@@ -4,6 +4,7 @@ use Rattle.p3_fri_plain.specs.Numbers.{AtPoints, coefficient_numbers}
 use Rattle.p3_fri_plain.specs.Views.{hiding_listed}
 use Rattle.p3_fri_plain.proofs.Nested.{deep_same}
 use Rattle.p3_fri_plain.proofs.PassedOn.{passed_on}
+use Rattle.std.proofs.lemmas.Result.{IfOk-from_err}
 use Rattle.p3_fri_plain.proofs.proof.HidingFriProofPlain.from_plain.Goals as goal
 
 pub returns-in_err-from_plain-clause-err : goal.returns-in_err-from_plain-clause-err
@@ -35,3 +36,23 @@ returns-clause-faultless g c error fault = elim fault [
   | inl f ↦ c.in_ok-from_plain.ensures.faultless error f
   | inr f ↦ c.in_ok-from_plain-2.ensures.faultless error f
 ]
+
+-- where nothing is answered nothing is said of the answer
+pub returns-clause-err : goal.returns-clause-err
+returns-clause-err g c = tt
+
+pub returns-in_err-from_plain-2-clause-faultless : goal.returns-in_err-from_plain-2-clause-faultless
+returns-in_err-from_plain-2-clause-faultless g c =
+    IfOk-from_err c.from_residual-in_err-from_plain-2.result _ c.from_residual-in_err-from_plain-2.ensures.0
+
+pub returns-in_err-from_plain-2-clause-ok : goal.returns-in_err-from_plain-2-clause-ok
+returns-in_err-from_plain-2-clause-ok g c =
+    IfOk-from_err c.from_residual-in_err-from_plain-2.result _ c.from_residual-in_err-from_plain-2.ensures.0
+
+pub returns-in_err-from_plain-clause-faultless : goal.returns-in_err-from_plain-clause-faultless
+returns-in_err-from_plain-clause-faultless g c =
+    IfOk-from_err c.from_residual.result _ c.from_residual.ensures.0
+
+pub returns-in_err-from_plain-clause-ok : goal.returns-in_err-from_plain-clause-ok
+returns-in_err-from_plain-clause-ok g c =
+    IfOk-from_err c.from_residual.result _ c.from_residual.ensures.0

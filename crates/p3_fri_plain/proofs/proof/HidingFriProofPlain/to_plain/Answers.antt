@@ -1,6 +1,7 @@
 use Rattle.std.proofs.Common.{map, ◌∙◌, ap, inl, inr}
 use Rattle.p3_fri_plain.specs.Numbers.{AtPoints, coefficient_numbers}
 use Rattle.p3_fri_plain.proofs.Nested.{deep_same}
+use Rattle.std.proofs.lemmas.Result.{IfOk-from_err}
 use Rattle.p3_fri_plain.proofs.proof.HidingFriProofPlain.to_plain.Goals as goal
 
 pub returns-clause-numbers : goal.returns-clause-numbers
@@ -17,3 +18,20 @@ returns-clause-faultless g c error fault = elim fault [
   | inl f ↦ c.in_ok-to_plain.ensures.faultless error f
   | inr f ↦ c.in_ok-to_plain-2.ensures.faultless error f
 ]
+
+-- where nothing is answered nothing is said of the answer
+pub returns-in_err-to_plain-2-clause-faultless : goal.returns-in_err-to_plain-2-clause-faultless
+returns-in_err-to_plain-2-clause-faultless g c =
+    IfOk-from_err c.from_residual-in_err-to_plain-2.result _ c.from_residual-in_err-to_plain-2.ensures.0
+
+pub returns-in_err-to_plain-2-clause-numbers : goal.returns-in_err-to_plain-2-clause-numbers
+returns-in_err-to_plain-2-clause-numbers g c =
+    IfOk-from_err c.from_residual-in_err-to_plain-2.result _ c.from_residual-in_err-to_plain-2.ensures.0
+
+pub returns-in_err-to_plain-clause-faultless : goal.returns-in_err-to_plain-clause-faultless
+returns-in_err-to_plain-clause-faultless g c =
+    IfOk-from_err c.from_residual.result _ c.from_residual.ensures.0
+
+pub returns-in_err-to_plain-clause-numbers : goal.returns-in_err-to_plain-clause-numbers
+returns-in_err-to_plain-clause-numbers g c =
+    IfOk-from_err c.from_residual.result _ c.from_residual.ensures.0

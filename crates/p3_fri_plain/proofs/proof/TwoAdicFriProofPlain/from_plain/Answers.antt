@@ -4,6 +4,7 @@ use Rattle.p3_fri_plain.specs.Faults.{InCommitWitnesses, InInputs, InRounds, InF
 use Rattle.p3_fri_plain.specs.Faults.{InQueryWitness}
 use Rattle.p3_fri_plain.specs.Views.{proof_listed}
 use Rattle.p3_fri_plain.proofs.PassedOn.{passed_on}
+use Rattle.std.proofs.lemmas.Result.{IfOk-from_err}
 use Rattle.p3_fri_plain.proofs.proof.TwoAdicFriProofPlain.from_plain.Goals as goal
 
 pub returns-in_err-from_plain-clause-err : goal.returns-in_err-from_plain-clause-err
@@ -83,3 +84,63 @@ returns-clause-faultless g c error fault = elim fault [
   | InFinalPoly f ↦ c.in_ok-from_plain-6.ensures.faultless error f
   | InQueryWitness f ↦ c.in_ok-from_plain-7.ensures.faultless error f
 ]
+
+-- where nothing is answered nothing is said of the answer
+pub returns-clause-err : goal.returns-clause-err
+returns-clause-err g c = tt
+
+pub returns-in_err-from_plain-2-clause-faultless : goal.returns-in_err-from_plain-2-clause-faultless
+returns-in_err-from_plain-2-clause-faultless g c =
+    IfOk-from_err c.from_residual-in_err-from_plain-2.result _ c.from_residual-in_err-from_plain-2.ensures.0
+
+pub returns-in_err-from_plain-2-clause-ok : goal.returns-in_err-from_plain-2-clause-ok
+returns-in_err-from_plain-2-clause-ok g c =
+    IfOk-from_err c.from_residual-in_err-from_plain-2.result _ c.from_residual-in_err-from_plain-2.ensures.0
+
+pub returns-in_err-from_plain-3-clause-faultless : goal.returns-in_err-from_plain-3-clause-faultless
+returns-in_err-from_plain-3-clause-faultless g c =
+    IfOk-from_err c.from_residual-in_err-from_plain-3.result _ c.from_residual-in_err-from_plain-3.ensures.0
+
+pub returns-in_err-from_plain-3-clause-ok : goal.returns-in_err-from_plain-3-clause-ok
+returns-in_err-from_plain-3-clause-ok g c =
+    IfOk-from_err c.from_residual-in_err-from_plain-3.result _ c.from_residual-in_err-from_plain-3.ensures.0
+
+pub returns-in_err-from_plain-4-clause-faultless : goal.returns-in_err-from_plain-4-clause-faultless
+returns-in_err-from_plain-4-clause-faultless g c =
+    IfOk-from_err c.from_residual-in_err-from_plain-4.result _ c.from_residual-in_err-from_plain-4.ensures.0
+
+pub returns-in_err-from_plain-4-clause-ok : goal.returns-in_err-from_plain-4-clause-ok
+returns-in_err-from_plain-4-clause-ok g c =
+    IfOk-from_err c.from_residual-in_err-from_plain-4.result _ c.from_residual-in_err-from_plain-4.ensures.0
+
+pub returns-in_err-from_plain-5-clause-faultless : goal.returns-in_err-from_plain-5-clause-faultless
+returns-in_err-from_plain-5-clause-faultless g c =
+    IfOk-from_err c.from_residual-in_err-from_plain-5.result _ c.from_residual-in_err-from_plain-5.ensures.0
+
+pub returns-in_err-from_plain-5-clause-ok : goal.returns-in_err-from_plain-5-clause-ok
+returns-in_err-from_plain-5-clause-ok g c =
+    IfOk-from_err c.from_residual-in_err-from_plain-5.result _ c.from_residual-in_err-from_plain-5.ensures.0
+
+pub returns-in_err-from_plain-6-clause-faultless : goal.returns-in_err-from_plain-6-clause-faultless
+returns-in_err-from_plain-6-clause-faultless g c =
+    IfOk-from_err c.from_residual-in_err-from_plain-6.result _ c.from_residual-in_err-from_plain-6.ensures.0
+
+pub returns-in_err-from_plain-6-clause-ok : goal.returns-in_err-from_plain-6-clause-ok
+returns-in_err-from_plain-6-clause-ok g c =
+    IfOk-from_err c.from_residual-in_err-from_plain-6.result _ c.from_residual-in_err-from_plain-6.ensures.0
+
+pub returns-in_err-from_plain-7-clause-faultless : goal.returns-in_err-from_plain-7-clause-faultless
+returns-in_err-from_plain-7-clause-faultless g c =
+    IfOk-from_err c.from_residual-in_err-from_plain-7.result _ c.from_residual-in_err-from_plain-7.ensures.0
+
+pub returns-in_err-from_plain-7-clause-ok : goal.returns-in_err-from_plain-7-clause-ok
+returns-in_err-from_plain-7-clause-ok g c =
+    IfOk-from_err c.from_residual-in_err-from_plain-7.result _ c.from_residual-in_err-from_plain-7.ensures.0
+
+pub returns-in_err-from_plain-clause-faultless : goal.returns-in_err-from_plain-clause-faultless
+returns-in_err-from_plain-clause-faultless g c =
+    IfOk-from_err c.from_residual.result _ c.from_residual.ensures.0
+
+pub returns-in_err-from_plain-clause-ok : goal.returns-in_err-from_plain-clause-ok
+returns-in_err-from_plain-clause-ok g c =
+    IfOk-from_err c.from_residual.result _ c.from_residual.ensures.0
