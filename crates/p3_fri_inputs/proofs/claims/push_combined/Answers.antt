@@ -6,7 +6,6 @@ use Rattle.p3_pcs.specs.Claims.{point_claim}
 use Rattle.p3_fri_inputs.proofs.Places.{all_mapped_at}
 use Rattle.algebra.proofs.Growing.{mapped_next}
 use Rattle.algebra.proofs.Lists.{entry_of_map}
-use Rattle.std.proofs.lemmas.Result.{IfOk-from_err}
 use Rattle.p3_fri_inputs.proofs.claims.push_combined.Goals as goal
 
 pub combine-requires : goal.combine-requires
@@ -35,7 +34,3 @@ loop-k-preserved g c =
     (entry_of_map point_claim items k z below c.index.ensures) c.loop-k.invariant
     (c.in_ok-push.ensures.items
     ∙ ap (λ v. old ++ v ∷ []) (c.combine.ensures ∙ ap (λ xs. val K xs alpha) c.deref.ensures.value))
-
--- where nothing is answered nothing is said of the answer
-pub returns-in_err-push : goal.returns-in_err-push
-returns-in_err-push g c = IfOk-from_err c.from_residual.result _ c.from_residual.ensures.0

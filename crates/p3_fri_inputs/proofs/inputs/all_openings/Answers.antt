@@ -3,7 +3,6 @@ use Rattle.algebra.specs.Nested.{lists}
 use Rattle.p3_fri_relation.specs.Heights.{matrices_of}
 use Rattle.p3_fri_relation.specs.Views.{claims_of}
 use Rattle.p3_fri_inputs.proofs.Assembly.{readable}
-use Rattle.std.proofs.lemmas.Result.{IfOk-from_err}
 use Rattle.p3_fri_inputs.proofs.inputs.all_openings.Goals as goal
 
 pub openings_by_query-requires-clause-readable : goal.openings_by_query-requires-clause-readable
@@ -28,15 +27,3 @@ openings_by_query-requires-clause-heights g c = c.deref-2.ensures.value ∙ c.in
 
 pub returns : goal.returns
 returns g c = rw c.in_ok-ladder.ensures.alpha at c.openings_by_query.ensures
-
--- where nothing is answered nothing is said of the answer
-pub returns-in_err-combined : goal.returns-in_err-combined
-returns-in_err-combined g c =
-    IfOk-from_err c.from_residual-in_err-combined.result _ c.from_residual-in_err-combined.ensures.0
-
-pub returns-in_err-heights : goal.returns-in_err-heights
-returns-in_err-heights g c =
-    IfOk-from_err c.from_residual-in_err-heights.result _ c.from_residual-in_err-heights.ensures.0
-
-pub returns-in_err-ladder : goal.returns-in_err-ladder
-returns-in_err-ladder g c = IfOk-from_err c.from_residual.result _ c.from_residual.ensures.0

@@ -73,7 +73,3 @@ returns-clause-exact g c =
 
 pub returns-clause-fault : goal.returns-clause-fault
 returns-clause-fault g c = c.sum_inputs.ensures.fault c.args.input_mmcs.now
-
--- where nothing is answered nothing is said of the answer
-pub returns-in-Err-clause-sums : goal.returns-in-Err-clause-sums
-returns-in-Err-clause-sums g c = tt

@@ -15,7 +15,6 @@ use Rattle.p3_fri_inputs.proofs.Queries.{distances_count}
 use Rattle.p3_fri_inputs.proofs.Shares.{ShareAt, own_inverses}
 use Rattle.p3_fri_inputs.proofs.inputs.openings_by_query.Given.{Over}
 use Rattle.p3_fri_inputs.proofs.inputs.openings_by_query.Goals.{In-loop-j}
-use Rattle.std.proofs.lemmas.Result.{IfOk-from_err}
 use Rattle.p3_fri_inputs.proofs.inputs.openings_by_query.Goals as goal
 
 abbrev fields_of : (g : Over) → Fields g.row.F.Denot g.row.EF.Denot
@@ -127,15 +126,3 @@ returns g c =
       c.loop-j.invariant.answers ∙ ap (λ k. tabulate k answer_at) last,
       λ i l. c.loop-j.invariant.constants i (omega (arith, l, last)),
     )
-
--- where nothing is answered nothing is said of the answer
-pub returns-in_err-answers : goal.returns-in_err-answers
-returns-in_err-answers g c = IfOk-from_err c.from_residual.result _ c.from_residual.ensures.0
-
-pub returns-in_err-found : goal.returns-in_err-found
-returns-in_err-found g c =
-    IfOk-from_err c.from_residual-in_err-found.result _ c.from_residual-in_err-found.ensures.0
-
-pub returns-in_err-push : goal.returns-in_err-push
-returns-in_err-push g c =
-    IfOk-from_err c.from_residual-in_err-push.result _ c.from_residual-in_err-push.ensures.0

@@ -11,7 +11,6 @@ use Rattle.p3_fri_inputs.proofs.Queries.{map_agree, has_below, heights_within}
 use Rattle.p3_fri_inputs.proofs.inputs.query_openings.Given.{Over}
 use Rattle.p3_fri_inputs.proofs.inputs.query_openings.Goals.{After-has_height-has_constants}
 use Rattle.p3_fri_inputs.proofs.inputs.query_openings.Goals.{In_ok-sums}
-use Rattle.std.proofs.lemmas.Result.{IfOk-from_err}
 use Rattle.p3_fri_inputs.proofs.inputs.query_openings.Goals as goal
 
 abbrev fields_of : (g : Over) → Fields g.row.F.Denot g.row.EF.Denot
@@ -124,11 +123,3 @@ returns g c position inverses =
           (constants_within g at.After-has_height-has_constants truth))
           ∙ c.is_constant_zero.ensures.0 c.if-not-is_constant_zero.false truth,
     )
-
--- where nothing is answered nothing is said of the answer
-pub returns-in_err-list_sums : goal.returns-in_err-list_sums
-returns-in_err-list_sums g c =
-    IfOk-from_err c.from_residual-in_err-list_sums.result _ c.from_residual-in_err-list_sums.ensures.0
-
-pub returns-in_err-sums : goal.returns-in_err-sums
-returns-in_err-sums g c = IfOk-from_err c.from_residual.result _ c.from_residual.ensures.0

@@ -6,7 +6,6 @@ use Rattle.p3_fri_relation.specs.Views.{claims_of, inputs_opened}
 use Rattle.p3_fri_inputs.proofs.Places.{of_some, of_none}
 use Rattle.p3_fri_inputs.proofs.inputs.sum_inputs.Given.{Over}
 use Rattle.p3_fri_inputs.proofs.inputs.sum_inputs.Goals.{In-None}
-use Rattle.std.proofs.lemmas.Result.{IfOk-from_err}
 use Rattle.p3_fri_inputs.proofs.inputs.sum_inputs.Goals as goal
 
 abbrev fields_of : (g : Over) → Fields g.row.F.Denot g.row.EF.Denot
@@ -59,15 +58,3 @@ pub returns-in-Some-clause-sums : goal.returns-in-Some-clause-sums
 returns-in-Some-clause-sums g c =
     let summed = of_some c.in_ok-summed.summed c.in-Some.openings _ _ c.in-Some.is
     c.in_ok-summed.ensures in summed.0
-
--- where nothing is answered nothing is said of the answer
-pub returns-in-Err-clause-sums : goal.returns-in-Err-clause-sums
-returns-in-Err-clause-sums g c = tt
-
-pub returns-in_err-found-clause-sums : goal.returns-in_err-found-clause-sums
-returns-in_err-found-clause-sums g c =
-    IfOk-from_err c.from_residual.result _ c.from_residual.ensures.0
-
-pub returns-in_err-summed-clause-sums : goal.returns-in_err-summed-clause-sums
-returns-in_err-summed-clause-sums g c =
-    IfOk-from_err c.from_residual-in_err-summed.result _ c.from_residual-in_err-summed.ensures.0

@@ -9,7 +9,6 @@ use Rattle.p3_fri_inputs.proofs.Assembly.{all_nonzero}
 use Rattle.p3_fri_inputs.proofs.Places.{of_some, of_none}
 use Rattle.p3_fri_inputs.proofs.points.inverse_distances.Given.{Over}
 use Rattle.p3_fri_inputs.proofs.points.inverse_distances.Goals.{After-deref}
-use Rattle.std.proofs.lemmas.Result.{IfOk-from_err}
 use Rattle.p3_fri_inputs.proofs.points.inverse_distances.Goals as goal
 
 abbrev fields_of : (g : Over) → Fields g.row.F.Denot g.row.EF.Denot
@@ -60,12 +59,3 @@ returns g c =
       c.in_ok-inverses.ensures
           ∙ ap (λ xs. map g.EF.Field.ops.inv xs) (differences g (goal.at.returns g c).After-deref),
     )
-
--- where nothing is answered nothing is said of the answer
-pub returns-in_err-inverses : goal.returns-in_err-inverses
-returns-in_err-inverses g c =
-    IfOk-from_err c.from_residual-in_err-inverses.result _ c.from_residual-in_err-inverses.ensures.0
-
-pub returns-in_err-met : goal.returns-in_err-met
-returns-in_err-met g c =
-    IfOk-from_err c.from_residual-in_err-met.result _ c.from_residual-in_err-met.ensures.0

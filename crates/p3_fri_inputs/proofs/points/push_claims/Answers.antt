@@ -12,7 +12,6 @@ use Rattle.p3_fri_inputs.proofs.Places.{of_none}
 use Rattle.algebra.proofs.Growing.{joined_pushed, joined_end}
 use Rattle.algebra.proofs.Lists.{entry_of_map}
 use Rattle.p3_fri_inputs.proofs.Openings.{joined_twice, all_of_one}
-use Rattle.std.proofs.lemmas.Result.{IfOk-from_err}
 use Rattle.p3_fri_inputs.proofs.points.push_claims.Goals as goal
 
 pub push_commitment-requires : goal.push_commitment-requires
@@ -93,7 +92,3 @@ returns g c =
           ∙ ap (λ ds. c.args.differences.now.items ++ ds)
           (sym (joined_twice distance (λ d. d.matrices) cs)),
     )
-
--- where nothing is answered nothing is said of the answer
-pub returns-in_err-matrix : goal.returns-in_err-matrix
-returns-in_err-matrix g c = IfOk-from_err c.from_residual.result _ c.from_residual.ensures.0

@@ -14,7 +14,6 @@ use Rattle.p3_fri_inputs.proofs.Places.{at_mapped, holds_next, holds_of_all, all
 use Rattle.p3_fri_inputs.proofs.Places.{of_some, of_none}
 use Rattle.p3_fri_inputs.proofs.points.push_commitment.Given.{Over}
 use Rattle.p3_fri_inputs.proofs.points.push_commitment.Goals.{After-index-matrix}
-use Rattle.std.proofs.lemmas.Result.{IfOk-from_err}
 use Rattle.p3_fri_inputs.proofs.points.push_commitment.Goals as goal
 
 -- a point is read for the matrix
@@ -108,7 +107,3 @@ returns g c =
           (omega (arith, whole, length-map items (matrix_claim (λ domain. domain.log_size))))
           c.loop-k.invariant.pushed,
     )
-
--- where nothing is answered nothing is said of the answer
-pub returns-in_err-point : goal.returns-in_err-point
-returns-in_err-point g c = IfOk-from_err c.from_residual.result _ c.from_residual.ensures.0

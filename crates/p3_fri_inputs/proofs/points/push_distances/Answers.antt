@@ -9,7 +9,6 @@ use Rattle.p3_pcs.specs.Claims.{point_claim}
 use Rattle.p3_fri_inputs.proofs.Places.{at_mapped, holds_next, holds_of_all}
 use Rattle.algebra.proofs.Growing.{mapped_next, mapped_end}
 use Rattle.algebra.proofs.Lists.{entry_of_map}
-use Rattle.std.proofs.lemmas.Result.{IfOk-from_err}
 use Rattle.p3_fri_inputs.proofs.points.push_distances.Goals as goal
 
 pub returns-then-is_zero : goal.returns-then-is_zero
@@ -70,7 +69,3 @@ returns g c =
           c.loop-k.differences.items (omega (arith, length-map points point_claim))
           c.loop-k.invariant.pushed,
     )
-
--- where nothing is answered nothing is said of the answer
-pub returns-in_err-push : goal.returns-in_err-push
-returns-in_err-push g c = IfOk-from_err c.from_residual.result _ c.from_residual.ensures.0

@@ -1,4 +1,4 @@
-use Rattle.std.proofs.Common.{◌≡◌, ◌++◌, ◌<◌, ◌≤◌, ◌∙◌, ℕ, length, get_or, subst, sym, ap, arith}
+use Rattle.std.proofs.Common.{◌≡◌, ◌++◌, ◌∙◌, ℕ, get_or, subst, ap, arith}
 use Rattle.std.proofs.Common.{All, below_more}
 use Rattle.std.proofs.lemmas.List.{get_or_default}
 use Rattle.algebra.proofs.Growing.{joined_pushed, joined_end}
@@ -10,7 +10,6 @@ use Rattle.p3_fri_inputs.specs.Claims.{distances, IsApart}
 use Rattle.p3_fri_inputs.proofs.Places.{of_some, of_none}
 use Rattle.p3_fri_inputs.proofs.Queries.{apart_agree, distances_agree, met_by_query}
 use Rattle.p3_fri_inputs.proofs.points.push_queries.Given.{Over}
-use Rattle.std.proofs.lemmas.Result.{IfOk-from_err}
 use Rattle.p3_fri_inputs.proofs.points.push_queries.Goals as goal
 
 abbrev fields_of : (g : Over) → Fields g.row.F.Denot g.row.EF.Denot
@@ -73,7 +72,3 @@ returns g c =
           c.loop-j.j c.args.differences.now.items c.loop-j.differences.items c.loop-j-test.false
           c.loop-j.invariant.pushed,
     )
-
--- where nothing is answered nothing is said of the answer
-pub returns-in_err-place : goal.returns-in_err-place
-returns-in_err-place g c = IfOk-from_err c.from_residual.result _ c.from_residual.ensures.0

@@ -7,7 +7,6 @@ use Rattle.p3_fri_relation.specs.Heights.{matrices_of}
 use Rattle.p3_fri_relation.specs.Views.{claims_of}
 use Rattle.p3_fri_inputs.specs.Claims.{IsReadable}
 use Rattle.algebra.proofs.Lists.{length-tabulate, get_or-tabulate}
-use Rattle.std.proofs.lemmas.Result.{IfOk-from_err}
 use Rattle.p3_fri_inputs.proofs.sums.query_sums.Goals as goal
 
 pub add_openings-requires-clause-readable : goal.add_openings-requires-clause-readable
@@ -43,12 +42,3 @@ returns-clause-sums g c read inverses h d l =
     ∙ c.add_openings.ensures read inverses
     (λ j e q. ap (λ xs. get_or xs j e) listed ∙ get_or-tabulate count zero j e (omega (arith, q, long)))
     h d (omega (arith, l, long))
-
--- where nothing is answered nothing is said of the answer
-pub returns-in_err-sums-clause-count : goal.returns-in_err-sums-clause-count
-returns-in_err-sums-clause-count g c =
-    IfOk-from_err c.from_residual.result _ c.from_residual.ensures.0
-
-pub returns-in_err-sums-clause-sums : goal.returns-in_err-sums-clause-sums
-returns-in_err-sums-clause-sums g c =
-    IfOk-from_err c.from_residual.result _ c.from_residual.ensures.0
