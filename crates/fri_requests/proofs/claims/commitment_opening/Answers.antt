@@ -1,10 +1,10 @@
-use Rattle.std.proofs.Common.{◌≡◌, ◌<◌, All, map, length, get_or, subst, sym}
+use Rattle.std.proofs.Common.{◌≡◌, ◌<◌, ◌≤◌, List, All, map, length, ap₂, get_or, subst, sym}
 use Rattle.std.proofs.lemmas.Result.{IfOk-from_err}
 use Rattle.p3_pcs.specs.Claims.{matrix_claim}
-use Rattle.fri_requests.specs.Claims.{matrix_by, matrix_listed}
+use Rattle.fri_requests.specs.Claims.{MatrixNumbers, matrix_by, matrix_listed}
 use Rattle.fri_requests.specs.Statements.{IsMatrixClaimBy}
 use Rattle.fri_requests.proofs.Failed.{malformed_part, read_wants}
-use Rattle.fri_requests.proofs.Images.{image_more}
+use Rattle.fri_requests.proofs.Images.{image_all, image_more}
 use Rattle.fri_requests.proofs.Listed.{not_all}
 use Rattle.fri_requests.proofs.claims.commitment_opening.Goals as goal
 
@@ -43,3 +43,11 @@ returns-in_err-push-clause-numbers g c = IfOk-from_err c.from_residual-in_err-pu
 
 pub returns-in_err-push-clause-refused : goal.returns-in_err-push-clause-refused
 returns-in_err-push-clause-refused g c = read_wants c.from_residual-in_err-push.result _ c.from_residual-in_err-push.ensures.1
+
+pub returns-clause-numbers : goal.returns-clause-numbers
+returns-clause-numbers g c =
+    ap₂ (λ k (ms : List MatrixNumbers). record { commitment = k; matrices = ms }) (cc (c.in-Ok.ensures, c.as_str.ensures.value))
+    (image_all (λ ms. map matrix_listed ms) c.args.claims.now.matrices.items c.loop-index.index
+    (subst (λ ys. length ys ≤ c.loop-index.index) c.deref-matrix-items.ensures.value c.loop-index-test.false)
+    c.loop-index.invariant)
+

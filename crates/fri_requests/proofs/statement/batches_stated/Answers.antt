@@ -1,7 +1,7 @@
 use Rattle.std.proofs.Common.{◌<◌, ap, sym, ◌∙◌, ◌∷◌, [], map, arith, length}
 use Rattle.std.proofs.lemmas.List.{length-map, map-append}
 use Rattle.std.proofs.lemmas.Result.{IfOk-from_err}
-use Rattle.algebra.specs.Nested.{lists}
+use Rattle.algebra.specs.Nested.{lists, nested}
 use Rattle.algebra.proofs.Lists.{map-map, entry_of_map}
 use Rattle.p3_pcs.specs.Claims.{zip_with}
 use Rattle.fri_requests.specs.Bound.{batch_asked, commitment_stated}
@@ -68,3 +68,13 @@ returns-in_err-matrices_asked g c = IfOk-from_err c.from_residual-in_err-matrice
 
 pub returns-in_err-push : goal.returns-in_err-push
 returns-in_err-push g c = IfOk-from_err c.from_residual-in_err-push.result _ c.from_residual-in_err-push.ensures.0
+
+pub bounds-points-index : goal.bounds-points-index
+bounds-points-index g c =
+    omega (
+      arith,
+      c.loop-index-test.true,
+      same_length _ _ (nested c.args.points.now) c.args.batches.now c.requires.points,
+      length-map c.args.points.now (λ v. lists v.items),
+    )
+

@@ -1,12 +1,12 @@
-use Rattle.std.proofs.Common.{ap, ap₂, sym, ◌∙◌, map}
-use Rattle.std.proofs.lemmas.List.{take_all}
+use Rattle.std.proofs.Common.{ap, ap₂, arith, length, map, sym, ◌∙◌}
+use Rattle.std.proofs.lemmas.List.{length-map, take_all}
 use Rattle.std.proofs.lemmas.Result.{IfOk-from_err}
 use Rattle.algebra.specs.Nested.{lists}
 use Rattle.algebra.proofs.Lists.{map-map}
 use Rattle.fri_records.specs.declared.records.Domain.{Domain}
 use Rattle.fri_requests.specs.Bound.{matrix_asked, matrix_stated}
 use Rattle.fri_requests.specs.Committed.{domain_by, domain_committed}
-use Rattle.fri_requests.proofs.Bound.{entries_alike}
+use Rattle.fri_requests.proofs.Bound.{entries_alike, same_length}
 use Rattle.fri_requests.proofs.Kept.{same_more}
 use Rattle.fri_requests.proofs.statement.matrices_asked.Goals as goal
 
@@ -41,3 +41,20 @@ returns-in_err-from_slice g c = IfOk-from_err c.from_residual-in_err-from_slice.
 
 pub returns-in_err-push : goal.returns-in_err-push
 returns-in_err-push g c = IfOk-from_err c.from_residual-in_err-push.result _ c.from_residual-in_err-push.ensures.0
+
+pub bounds-domains-index : goal.bounds-domains-index
+bounds-domains-index g c = omega (
+  arith,
+  c.loop-index-test.true,
+  ap length c.deref-matrix-items.ensures.value,
+  same_length _ _ c.args.domains.now c.args.batch.now.matrices.items c.requires.domains,
+)
+
+pub bounds-points-index : goal.bounds-points-index
+bounds-points-index g c = omega (
+  arith,
+  c.loop-index-test.true,
+  ap length c.deref-matrix-items.ensures.value,
+  same_length _ _ (lists c.args.points.now) c.args.batch.now.matrices.items c.requires.points,
+  length-map c.args.points.now (λ v. v.items),
+)
