@@ -59,10 +59,11 @@ returns-clause-honest g c =
     c.args.evaluations.items c.requires.heights c.requires.within)
     c.in_ok-commitment.ensures.words)
 
--- where nothing is answered nothing is said of the answer
+-- of what is answered no refusal is said
 pub returns-clause-refused : goal.returns-clause-refused
 returns-clause-refused g c = tt
 
+-- where nothing is answered nothing is said of the answer
 pub returns-in_err-commitment-clause-commitment : goal.returns-in_err-commitment-clause-commitment
 returns-in_err-commitment-clause-commitment g c =
     IfOk-from_err c.from_residual.result _ c.from_residual.ensures.0

@@ -78,6 +78,6 @@ returns-clause-values g c words =
     ∙ ap (λ n. map (λ row. take (matrix_width c.in_ok-values.values - n) row) (rows c.in_ok-values.values))
     c.hidden_columns-hidden.ensures))
 
--- where nothing is answered nothing is said of the answer
+-- of what is answered no refusal is said
 pub returns-clause-refused : goal.returns-clause-refused
 returns-clause-refused g c = tt

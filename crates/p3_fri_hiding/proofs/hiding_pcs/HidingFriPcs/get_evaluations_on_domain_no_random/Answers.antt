@@ -46,6 +46,6 @@ returns-clause-values g c words =
     (c.index-matrices-index.is ∙ ap (λ ms. get_or ms c.args.index matrix) c.committed_matrices-matrices.ensures)
     words c.args.domain.shift c.args.domain.log_size c.in_ok-evaluations_on_domain.ensures
 
--- where nothing is answered nothing is said of the answer
+-- of what is answered no refusal is said
 pub returns-clause-refused : goal.returns-clause-refused
 returns-clause-refused g c = tt
