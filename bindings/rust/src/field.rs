@@ -52,25 +52,31 @@ pub(crate) mod number {
         fn read(left: &mut &[u8]) -> Option<Self>;
     }
 
+    // inlined where elements are written and read by the million, which is in the caller's crate
     impl Number for u32 {
         const ONE: u32 = 1;
 
+        #[inline]
         fn write(self, bytes: &mut [u8]) {
             bytes.copy_from_slice(&self.to_le_bytes());
         }
 
+        #[inline]
         fn read(left: &mut &[u8]) -> Option<u32> {
             array(left).map(u32::from_le_bytes)
         }
     }
 
+    // inlined where elements are written and read by the million, which is in the caller's crate
     impl Number for u64 {
         const ONE: u64 = 1;
 
+        #[inline]
         fn write(self, bytes: &mut [u8]) {
             bytes.copy_from_slice(&self.to_le_bytes());
         }
 
+        #[inline]
         fn read(left: &mut &[u8]) -> Option<u64> {
             array(left).map(u64::from_le_bytes)
         }
