@@ -34,9 +34,9 @@ use Rattle.fri_requests.specs.Matrices.{held_listed}
 use Rattle.fri_requests.specs.Openings.{request_for}
 use Rattle.fri_requests.specs.Preprocessing.{NamesPreprocessed}
 
--- a matrix of so many columns and values on a coset over a field of this order and two-adicity, with
--- room for the extension of the domain on which it is committed to: some column, and for each column
--- and point of the coset a value
+-- a matrix of so many columns and values on a coset over a field of this order and two-adicity,
+-- with room for the extension of the domain on which it is committed to: some column, and for each
+-- column and point of the coset a value
 pub record HasShape (order two_adicity : ℕ) (hides : Bool) (log_blowup : ℕ) (domain : Domain)
     (width count : ℕ) : Type 0 where
   pub coset : IsCosetBelow order two_adicity domain.shift domain.log_size
