@@ -6,6 +6,8 @@ use Rattle.std.proofs.lemmas.List.Elements.{All-more}
 use Rattle.std.specs.declared.vec.Vec.{Vec}
 use Rattle.algebra.specs.Nested.{lists}
 use Rattle.algebra.proofs.Nested.{length-lists, lists_at}
+use Rattle.p3_air.specs.Satisfied.{row_at}
+use Rattle.p3_air.specs.Shapes.{IsFirstMisfit}
 
 module _ {X : Type 0} (P : X → Type 0) (xs : List X) where
   pub one_more : (i : ℕ) (x : X) → i < length xs → x ≡ get_or xs i x → All P (take i xs) → P x
@@ -20,6 +22,16 @@ pub list_read : {T A : Type 0} (vectors : List (Vec T A)) (i : ℕ) (vector : Ve
     → i < length vectors → vector ≡ get_or vectors i vector
     → get_or (lists vectors) i [] ≡ vector.items
 list_read vectors i vector l e = lists_at vectors i vector l ∙ ap (λ v. v.items) (sym e)
+
+-- the first of other length, by the vector that was read
+pub misfit_read : {T A : Type 0} (width : ℕ) (vectors : List (Vec T A)) (place entries : ℕ)
+    (vector : Vec T A)
+    → IsFirstMisfit width (lists vectors) place (length (row_at (lists vectors) place))
+    → place < length vectors → vector ≡ get_or vectors place vector
+    → entries ≡ length vector.items → IsFirstMisfit width (lists vectors) place entries
+misfit_read width vectors place entries vector misfit there is long =
+    subst (IsFirstMisfit width (lists vectors) place)
+    (ap length (list_read vectors place vector there is) ∙ sym long) misfit
 
 -- the same of the lists in vectors
 module _ {T A : Type 0} (P : List T → Type 0) (vectors : List (Vec T A)) where

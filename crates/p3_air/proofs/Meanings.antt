@@ -1,7 +1,7 @@
 -- Meanings of nodes, one node more, and at the end.
-use Rattle.std.proofs.Common.{◌≡◌, ℕ, ◌+◌, ◌<◌, List, [], ◌∷◌, ◌++◌, length, drop, get_or}
+use Rattle.std.proofs.Common.{◌≡◌, ℕ, ◌+◌, ◌<◌, ◌≤◌, List, [], ◌∷◌, ◌++◌, length, drop, get_or}
 use Rattle.std.proofs.Common.{refl, sym, ap, ◌∙◌, arith, subst, All}
-use Rattle.std.proofs.lemmas.List.{at_drop_more, length_push}
+use Rattle.std.proofs.lemmas.List.{at_drop_more, at_drop_all, length_push}
 use Rattle.std.proofs.lemmas.List.{get_or_append_left, get_or_push}
 use Rattle.p3_air.specs.declared.air.Constraint.{Constraint}
 use Rattle.p3_air.specs.declared.air.Node.{Node}
@@ -40,6 +40,12 @@ module _ {V B : Type 0} (m : Meaning V B) where
         ap (λ xs. meanings_after m xs (drop (k + 1) nodes)) (grown
         ∙ ap (λ v. earlier ++ v ∷ []) (e ∙ ap (λ n. node_meaning m earlier n) is))
         ∙ sym (at_drop_more (λ ns. meanings_after m earlier ns) nodes k node l) ∙ h
+
+    -- all nodes
+    pub meanings_end : (k : ℕ) (earlier : List B) → length nodes ≤ k
+        → meanings_after m earlier (drop k nodes) ≡ meanings m nodes → earlier ≡ meanings m nodes
+    meanings_end k earlier end h =
+        sym (at_drop_all (λ ns. meanings_after m earlier ns) nodes k end) ∙ h
 
     -- what the next node means is among all meanings
     pub meaning_at : (k : ℕ) (earlier : List B) (node : Node V) (d : B) → k < length nodes

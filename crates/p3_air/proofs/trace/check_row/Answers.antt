@@ -1,10 +1,10 @@
-use Rattle.std.proofs.Common.{ap, sym, ◌∙◌, length}
+use Rattle.std.proofs.Common.{refl, ap, sym, ◌∙◌, length}
 use Rattle.algebra.proofs.Nested.{length-lists}
 use Rattle.p3_air.specs.Nodes.{values_in}
 use Rattle.p3_air.specs.Satisfied.{entries_at}
 use Rattle.p3_air.specs.Shapes.{assigned}
 use Rattle.p3_air.proofs.Meanings.{length_meanings, nodes_valued}
-use Rattle.p3_air.proofs.RowEntries.{row_holds}
+use Rattle.p3_air.proofs.RowEntries.{row_holds, row_fails}
 use Rattle.p3_air.proofs.trace.check_row.Goals as goal
 
 pub first_failing-requires-clause-nodes : goal.first_failing-requires-clause-nodes
@@ -25,3 +25,14 @@ returns-in-None g c =
     c.as_slice-constraints.result.now (sym (length-lists c.args.given.now.trace.now))
     (c.as_slice-node_values.ensures.value ∙ c.in_default.ensures)
     c.as_slice-constraints.ensures.value c.in-None.ensures
+
+pub returns-in-Some : goal.returns-in-Some
+returns-in-Some g c = (
+  refl,
+  row_fails g.F.Field.ops c.args.air.now (assigned c.args.given.now) c.args.row
+      (length c.args.given.now.trace.now) c.as_slice-node_values.result.now
+      c.as_slice-constraints.result.now c.in-Some.constraint
+      (sym (length-lists c.args.given.now.trace.now))
+      (c.as_slice-node_values.ensures.value ∙ c.in_default.ensures)
+      c.as_slice-constraints.ensures.value c.in-Some.ensures,
+)
