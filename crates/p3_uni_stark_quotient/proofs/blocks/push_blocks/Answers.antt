@@ -61,11 +61,3 @@ returns g c h n alpha x hyp =
     ∙ ap (λ b. tabulate (b * g.P.PackedField.WIDTH) (quotient_at g.F.Field.ops g.EF.Field.ops
     c.args.prepared.now h n alpha x g.EF.ExtensionField.lift))
     (le_antisymm c.loop-block.auto.block-end c.loop-block-test.false)
-
-pub pack_selectors-selectors-requires : goal.pack_selectors-selectors-requires
-pack_selectors-selectors-requires g c =
-    let width = g.P.PackedField.WIDTH in
-    let block = c.loop-block.block in
-    let size = length c.args.prepared.now.selectors.now in
-    subst (λ w. block * w + width ≤ size) (sym c.WIDTH.ensures)
-    (block_within block c.args.blocks width size c.loop-block-test.true c.requires.blocks)

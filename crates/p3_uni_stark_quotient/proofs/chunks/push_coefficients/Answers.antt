@@ -1,7 +1,6 @@
 use Rattle.std.proofs.Common.{◌++◌, sym, ap, ◌∙◌, arith}
 use Rattle.std.proofs.lemmas.List.{append-nil, take_all}
 use Rattle.p3_uni_stark_quotient.proofs.Chunking.{coefficient_next}
-use Rattle.std.proofs.lemmas.Result.{IfOk-from_err}
 use Rattle.p3_uni_stark_quotient.proofs.chunks.push_coefficients.Goals as goal
 
 pub loop-index-init : goal.loop-index-init
@@ -26,7 +25,3 @@ returns g c =
     c.loop-index.invariant
     ∙ ap (λ xs. c.args.coefficients.now.items ++ xs) (take_all c.loop-index.index cs
     (omega (arith, test, end, g.met.EF.ExtensionField.dimension_law c.args.value)))
-
--- where nothing is answered nothing is said of the answer
-pub returns-in_err-push : goal.returns-in_err-push
-returns-in_err-push g c = IfOk-from_err c.from_residual.result _ c.from_residual.ensures.0

@@ -16,9 +16,6 @@ seen g window l =
     values_in g.F.Field.ops (λ x. x) g.F.Field.ops.zero
     (lane_entries g.P.PackedField.lane l (entries_of window))
 
-pub add-requires : goal.add-requires
-add-requires g c = g.met.P.PackedField.can_add_law _ _
-
 pub returns-in-Add : goal.returns-in-Add
 returns-in-Add g c l within =
     let x = c.index-earlier-a in
@@ -27,9 +24,6 @@ returns-in-Add g c l within =
     c.args.earlier.now c.args.node c.requires.grounded c.in-Add.a c.in-Add.b x.result y.result
     (g.P.PackedField.lane c.add.result l) c.in-Add.is x.is y.is
     (g.met.P.PackedField.add_law x.result y.result c.add.result c.add.ensures l within)
-
-pub sub-requires : goal.sub-requires
-sub-requires g c = g.met.P.PackedField.can_sub_law _ _
 
 pub returns-in-Sub : goal.returns-in-Sub
 returns-in-Sub g c l within =
@@ -40,9 +34,6 @@ returns-in-Sub g c l within =
     (g.P.PackedField.lane c.sub.result l) c.in-Sub.is x.is y.is
     (g.met.P.PackedField.sub_law x.result y.result c.sub.result c.sub.ensures l within)
 
-pub mul-requires : goal.mul-requires
-mul-requires g c = g.met.P.PackedField.can_mul_law _ _
-
 pub returns-in-Mul : goal.returns-in-Mul
 returns-in-Mul g c l within =
     let x = c.index-earlier-a-in-Mul in
@@ -51,9 +42,6 @@ returns-in-Mul g c l within =
     c.args.earlier.now c.args.node c.requires.grounded c.in-Mul.a c.in-Mul.b x.result y.result
     (g.P.PackedField.lane c.mul.result l) c.in-Mul.is x.is y.is
     (g.met.P.PackedField.mul_law x.result y.result c.mul.result c.mul.ensures l within)
-
-pub neg-requires : goal.neg-requires
-neg-requires g c = g.met.P.PackedField.can_neg_law _
 
 pub returns-in-Neg : goal.returns-in-Neg
 returns-in-Neg g c l within =

@@ -2,7 +2,6 @@ use Rattle.std.proofs.Common.{◌<◌, ℕ, [], ◌∷◌, ◌++◌, length, app
 use Rattle.std.proofs.lemmas.List.{get_or_read}
 use Rattle.algebra.specs.Polynomial.{tabulate}
 use Rattle.algebra.proofs.Lists.{tabulate-next}
-use Rattle.std.proofs.lemmas.Result.{IfOk-from_err}
 use Rattle.p3_uni_stark_quotient.proofs.lanes.push_scaled.Goals as goal
 
 pub loop-lane-preserved : goal.loop-lane-preserved
@@ -24,7 +23,3 @@ loop-lane-preserved g c =
     c.lane.ensures)
     ∙ append_assoc start (tabulate lane scaled) (scaled lane ∷ [])
     ∙ ap (λ xs. start ++ xs) (sym (tabulate-next lane scaled))
-
--- where nothing is answered nothing is said of the answer
-pub returns-in_err-push : goal.returns-in_err-push
-returns-in_err-push g c = IfOk-from_err c.from_residual.result _ c.from_residual.ensures.0

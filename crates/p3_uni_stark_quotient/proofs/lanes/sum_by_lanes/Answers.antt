@@ -67,7 +67,3 @@ returns-clause-sums g c l lane =
 pub returns-in_err-reset-clause-len : goal.returns-in_err-reset-clause-len
 returns-in_err-reset-clause-len g c =
     IfOk-from_err c.from_residual-in_err-reset.result _ c.from_residual-in_err-reset.ensures.0
-
-pub returns-in_err-select_all_by_lanes-clause-len : goal.returns-in_err-select_all_by_lanes-clause-len
-returns-in_err-select_all_by_lanes-clause-len g c =
-    IfOk-from_err c.from_residual.result _ c.from_residual.ensures.0

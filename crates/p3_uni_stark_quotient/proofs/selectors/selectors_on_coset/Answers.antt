@@ -210,10 +210,6 @@ pub returns-in_err-all_points-clause-len : goal.returns-in_err-all_points-clause
 returns-in_err-all_points-clause-len g c =
     IfOk-from_err c.from_residual.result _ c.from_residual.ensures.0
 
-pub returns-in_err-all_points-clause-selectors : goal.returns-in_err-all_points-clause-selectors
-returns-in_err-all_points-clause-selectors g c =
-    IfOk-from_err c.from_residual.result _ c.from_residual.ensures.0
-
 pub returns-in_err-all_powers-clause-len : goal.returns-in_err-all_powers-clause-len
 returns-in_err-all_powers-clause-len g c =
     IfOk-from_err c.from_residual-in_err-all_powers.result _ c.from_residual-in_err-all_powers.ensures.0

@@ -106,21 +106,9 @@ returns g c =
     (shifted_one d top (omega (arith, size, within)) g.met.F.TwoAdicField.two_adicity_law)
 
 -- where nothing is answered nothing is said of the answer
-pub returns-in_err-all_powers : goal.returns-in_err-all_powers
-returns-in_err-all_powers g c =
-    IfOk-from_err c.from_residual-in_err-all_powers.result _ c.from_residual-in_err-all_powers.ensures.0
-
-pub returns-in_err-constraints : goal.returns-in_err-constraints
-returns-in_err-constraints g c =
-    IfOk-from_err c.from_residual-in_err-constraints.result _ c.from_residual-in_err-constraints.ensures.0
-
 pub returns-in_err-push_blocks : goal.returns-in_err-push_blocks
 returns-in_err-push_blocks g c =
     IfOk-from_err c.from_residual-in_err-push_blocks.result _ c.from_residual-in_err-push_blocks.ensures.0
-
-pub returns-in_err-push_rows : goal.returns-in_err-push_rows
-returns-in_err-push_rows g c =
-    IfOk-from_err c.from_residual-in_err-push_rows.result _ c.from_residual-in_err-push_rows.ensures.0
 
 pub returns-in_err-values : goal.returns-in_err-values
 returns-in_err-values g c =

@@ -69,10 +69,6 @@ pub returns-in_err-pack_rows-5-clause-widths : goal.returns-in_err-pack_rows-5-c
 returns-in_err-pack_rows-5-clause-widths g c =
     IfOk-from_err c.from_residual-in_err-pack_rows-5.result _ c.from_residual-in_err-pack_rows-5.ensures.0
 
-pub returns-in_err-pack_rows-clause-widths : goal.returns-in_err-pack_rows-clause-widths
-returns-in_err-pack_rows-clause-widths g c =
-    IfOk-from_err c.from_residual.result _ c.from_residual.ensures.0
-
 pub pack_rows-requires-2-clause-width : goal.pack_rows-requires-2-clause-width
 pack_rows-requires-2-clause-width g c l within =
     let given = on_coset c.args.columns.now in
