@@ -6,7 +6,7 @@ use Rattle.std.proofs.lemmas.Bool.{cases_lt, false≢true}
 use Rattle.std.proofs.lemmas.List.{get_or-map, length-map, get_or-take, get_or-drop, length-take-le, get_or_default}
 use Rattle.algebra.specs.Field.{FieldOps}
 use Rattle.algebra.specs.Cosets.{vanishing}
-use Rattle.p3_fri_masks.specs.QuotientMasks.{IsOffOthers}
+use Rattle.p3_fri_masks.specs.QuotientMasks.{AreDisjoint, IsOffOthers}
 use Rattle.p3_fri_masks.proofs.Firsts.{one_more_holds, all_hold}
 
 pub passed : {P : Type 0} → P → IsTrue true ↔ P
@@ -35,6 +35,33 @@ module _ {A C : Type 0} (F : FieldOps A) (shift : C → A) (log_size : C → ℕ
   pub size_at : (i : ℕ) (d : C) → i < length domains → d ≡ get_or domains i d
       → get_or (map log_size domains) i 0 ≡ log_size d
   size_at i d l is = get_or-map log_size domains i d 0 l ∙ ap log_size (sym is)
+
+  -- of disjoint cosets each is off the others, and where each is and all have one size they are
+  -- disjoint
+  pub off_others_of : AreDisjoint F (map log_size domains) (map shift domains) → (i : ℕ)
+      → i < length domains → IsOffOthers F (map log_size domains) (map shift domains) i
+  off_others_of disjoint i l j m other e =
+      let sizes = map log_size domains in
+      let shifts = map shift domains in
+      let inside : j < length sizes =
+      omega (arith, m, length-map domains shift, length-map domains log_size) in
+      disjoint.apart i j (omega (arith, l, length-map domains log_size)) inside other
+      (subst (λ k. vanishing F (get_or shifts j F.zero) k (get_or shifts i F.zero) ≡ F.zero)
+      (disjoint.one_size j 0 inside) e)
+
+  pub disjoint_of : (n : ℕ)
+      → All (λ k. k ≡ get_or (map log_size domains) 0 0) (map log_size domains)
+      → ((i : ℕ) → i < n → IsOffOthers F (map log_size domains) (map shift domains) i)
+      → length domains ≤ n → AreDisjoint F (map log_size domains) (map shift domains)
+  disjoint_of n one_size off all = record {
+    one_size = one_size;
+    apart = λ i j l m other e.
+        let shifts = map shift domains in
+        off i (omega (arith, l, all, length-map domains log_size)) j
+        (omega (arith, m, length-map domains shift, length-map domains log_size)) other
+        (subst (λ k. vanishing F (get_or shifts j F.zero) k (get_or shifts i F.zero) ≡ F.zero)
+        (sym (one_size j 0 m)) e);
+  }
 
   -- where the point `p` is the first of coset `i`, and `d` any coset
   module _ (i : ℕ) (p : A) (d : C) (below : i < length domains)

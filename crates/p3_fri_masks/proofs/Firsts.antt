@@ -1,8 +1,8 @@
 -- What holds of the first entries of a list, and of all.
-use Rattle.std.proofs.Common.{◌≡◌, ℕ, ◌+◌, ◌<◌, ◌≤◌, ◌⊎◌, inl, inr, List, [], ◌∷◌, ◌++◌, length, take, All}
-use Rattle.std.proofs.Common.{get_or, refl, sym, ap, subst, ◌∙◌, arith, length-append}
+use Rattle.std.proofs.Common.{◌≡◌, ℕ, ◌+◌, ◌<◌, ◌≤◌, ◌⊎◌, inl, inr, List, [], ◌∷◌, ◌++◌, length, map, take, All}
+use Rattle.std.proofs.Common.{get_or, refl, sym, ap, ap₂, subst, ◌∙◌, arith, length-append, append_assoc}
 use Rattle.std.proofs.lemmas.Bool.{cases_lt}
-use Rattle.std.proofs.lemmas.List.{take_more, take_all, get_or_append_left}
+use Rattle.std.proofs.lemmas.List.{take_more, take_all, map-append, get_or_append_left}
 
 module _ {C : Type 0} (P : C → Type 0) (xs : List C) where
   at_end : (ys : List C) (x d : C) → get_or (ys ++ x ∷ []) (length ys) d ≡ x
@@ -28,3 +28,16 @@ module _ {C : Type 0} (P : C → Type 0) (xs : List C) where
 
   pub all_hold : (i : ℕ) → All P (take i xs) → length xs ≤ i → All P xs
   all_hold i before l = subst (λ ys. All P ys) (take_all i xs l) before
+
+-- one image more, behind what was there
+pub scaled_more : {A B : Type 0} (f : A → B) (old : List B) (xs : List A) (i : ℕ) (x : A) (y : B)
+    (before after : List B) → i < length xs → x ≡ get_or xs i x → y ≡ f x
+    → before ≡ old ++ map f (take i xs) → after ≡ before ++ y ∷ []
+    → after ≡ old ++ map f (take (i + 1) xs)
+scaled_more f old xs i x y before after l is made h grown =
+    let first = take i xs in
+    let here = get_or xs i x in
+    grown ∙ ap₂ (λ ys z. ys ++ z ∷ []) h (made ∙ ap f is)
+    ∙ append_assoc old (map f first) (f here ∷ [])
+    ∙ ap (λ ys. old ++ ys) (sym (map-append f first (here ∷ [])))
+    ∙ ap (λ ys. old ++ map f ys) (sym (take_more xs i x l))

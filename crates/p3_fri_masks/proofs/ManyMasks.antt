@@ -49,6 +49,12 @@ constant_at n [] i d l = absurd (omega (arith, l))
 constant_at n (x ∷ xs) zero d l = refl
 constant_at n (x ∷ xs) (suc i) d l = constant_at n xs i d (omega (arith, l))
 
+-- where some list has an image, so has each that has the same images
+pub some_mapped : {X Y : Type 0} (f : X → ℕ) (h : Y → ℕ) (xs : List X) (ys : List Y)
+    → map f xs ≡ map h ys → 0 < length ys → 0 < length xs
+some_mapped f h xs ys same some =
+    omega (arith, some, length-map xs f, length-map ys h, ap length same)
+
 -- the greatest cosets lie within the two-adicity
 module _ {A D : Type 0} (log_size : D → ℕ) (top b : ℕ) where
   pub first_within : (cs : List (D × RowMajorMatrix A)) → 0 < length cs

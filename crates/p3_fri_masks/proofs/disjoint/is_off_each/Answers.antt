@@ -9,7 +9,6 @@ loop-domain-preserved g c = search (
 )
 
 pub returns : goal.returns
-returns g c = search (
-  rules,
-  off_all g.F.Field.ops (λ d. d.shift) (λ d. d.log_size) c.args.domains.now c.args.point,
-)
+returns g c =
+    off_all g.F.Field.ops (λ d. d.shift) (λ d. d.log_size) c.args.domains.now c.args.point
+    c.loop-domain.domain-index c.loop-domain.invariant c.loop-domain-test.false

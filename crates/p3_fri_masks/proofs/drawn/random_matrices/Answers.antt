@@ -4,6 +4,7 @@ use Rattle.p3_matrix.proofs.Words.{past_none}
 use Rattle.p3_fri_masks.specs.Draws.{random_rows}
 use Rattle.p3_fri_masks.proofs.Batches.{all_left, one_fewer, none_left}
 use Rattle.p3_fri_masks.proofs.RandomRows.{none_random, one_more_random, past_one_more_random}
+use Rattle.std.proofs.lemmas.Result.{IfOk-from_err}
 use Rattle.p3_fri_masks.proofs.drawn.random_matrices.Goals as goal
 
 pub loop-domain-init : goal.loop-domain-init
@@ -56,3 +57,28 @@ returns-clause-past g c =
     c.args.domains.items c.loop-domain.domain-iterator.rest.len c.loop-domain.invariant.left
     c.in-None.ensures.steps.0 in
     rw (← all) c.loop-domain.invariant.stream
+
+-- where nothing is answered nothing is said of the answer
+pub returns-in_err-matrices-clause-past : goal.returns-in_err-matrices-clause-past
+returns-in_err-matrices-clause-past g c =
+    IfOk-from_err c.from_residual.result _ c.from_residual.ensures.0
+
+pub returns-in_err-matrices-clause-random : goal.returns-in_err-matrices-clause-random
+returns-in_err-matrices-clause-random g c =
+    IfOk-from_err c.from_residual.result _ c.from_residual.ensures.0
+
+pub returns-in_err-push-clause-past : goal.returns-in_err-push-clause-past
+returns-in_err-push-clause-past g c =
+    IfOk-from_err c.from_residual-in_err-push.result _ c.from_residual-in_err-push.ensures.0
+
+pub returns-in_err-push-clause-random : goal.returns-in_err-push-clause-random
+returns-in_err-push-clause-random g c =
+    IfOk-from_err c.from_residual-in_err-push.result _ c.from_residual-in_err-push.ensures.0
+
+pub returns-in_err-random_matrix-clause-past : goal.returns-in_err-random_matrix-clause-past
+returns-in_err-random_matrix-clause-past g c =
+    IfOk-from_err c.from_residual-in_err-random_matrix.result _ c.from_residual-in_err-random_matrix.ensures.0
+
+pub returns-in_err-random_matrix-clause-random : goal.returns-in_err-random_matrix-clause-random
+returns-in_err-random_matrix-clause-random g c =
+    IfOk-from_err c.from_residual-in_err-random_matrix.result _ c.from_residual-in_err-random_matrix.ensures.0

@@ -9,6 +9,7 @@ use Rattle.p3_dft.proofs.Extensions.{size_of_product}
 use Rattle.p3_dft.proofs.Sizes.{power_within}
 use Rattle.p3_fri_masks.specs.MaskedChunks.{HoldsMaskedChunk}
 use Rattle.p3_fri_masks.proofs.MaskedWords.{room_for_mask, length-masked_and_padded, holds_masked_chunk}
+use Rattle.std.proofs.lemmas.Result.{IfOk-from_err}
 use Rattle.p3_fri_masks.proofs.extension.masked_extension.Goals as goal
 
 pub overflow_add-log_twice : goal.overflow_add-log_twice
@@ -243,3 +244,8 @@ returns g c =
     g.F.Field.GENERATOR c.args.domain.nonzero k b c.requires.within c.args.chunk C M V
     c.bit_reverse_rows.result width rest c.args.mask.now cs ps c.requires.height known given made are mask
     evaluated (c.bit_reverse_rows.ensures.rows n (evaluated.height ∙ tall)) c.bit_reverse_rows.ensures.width)
+
+-- where nothing is answered nothing is said of the answer
+pub returns-in_err-words : goal.returns-in_err-words
+returns-in_err-words g c =
+    IfOk-from_err c.from_residual-in_err-words.result _ c.from_residual-in_err-words.ensures.0

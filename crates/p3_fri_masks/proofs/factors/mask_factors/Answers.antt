@@ -1,10 +1,12 @@
 use Rattle.std.proofs.Common.{◌≡◌, ◌-◌, ◌++◌, ◌∷◌, [], ℕ, length, map, get_or, ap, ap₂, sym, subst, ◌∙◌, arith}
+use Rattle.std.proofs.Math.Nat.{le_antisymm}
 use Rattle.std.proofs.lemmas.List.{get_or_read, length-map}
 use Rattle.algebra.specs.Cosets.{vanishing}
 use Rattle.algebra.specs.Polynomial.{tabulate}
 use Rattle.algebra.specs.RecombinedQuotients.{ChunksApart, product_but, chunk_weight}
 use Rattle.algebra.proofs.Lists.{tabulate-next, length-tabulate}
 use Rattle.p3_fri_masks.proofs.Weights.{no_product_zero, weight_at, product_at, factors_are}
+use Rattle.std.proofs.lemmas.Result.{IfOk-from_err}
 use Rattle.p3_fri_masks.proofs.factors.mask_factors.Goals as goal
 
 pub loop-index-preserved : goal.loop-index-preserved
@@ -27,7 +29,8 @@ batch_multiplicative_inverse-requires g c =
     let n = length chunks in
     let k = get_or (map (λ e. e.0.log_size) chunks) 0 0 in
     let s = λ (j : ℕ). get_or (map (λ e. e.0.shift) chunks) j F.zero in
-    let end : c.loop-index.index ≡ n = omega arith in
+    let end : c.loop-index.index ≡ n =
+    le_antisymm c.loop-index.auto.index-end c.loop-index-test.false in
     let apart : ChunksApart F n k s = subst (λ m. ChunksApart F m k s) (length-map chunks (λ e. e.0.log_size)) c.requires.disjoint.apart in
     record {
       nonzero = no_product_zero F g.met.F.Field.laws n k s apart c.deref.result.now
@@ -74,7 +77,8 @@ loop-chunk-preserved g c =
     let n = length chunks in
     let k = get_or (map (λ e. e.0.log_size) chunks) 0 0 in
     let s = λ (j : ℕ). get_or (map (λ e. e.0.shift) chunks) j F.zero in
-    let end : c.loop-index.index ≡ n = omega arith in
+    let end : c.loop-index.index ≡ n =
+    le_antisymm c.loop-index.auto.index-end c.loop-index-test.false in
     let apart : ChunksApart F n k s = subst (λ m. ChunksApart F m k s) (length-map chunks (λ e. e.0.log_size)) c.requires.disjoint.apart in
     let i = c.loop-chunk.chunk in
     let products = c.loop-index.products.items in
@@ -108,3 +112,16 @@ returns g c =
     ∙ ap (λ m. tabulate m (λ i. F.mul (chunk_weight F n k s i)
     (product_but F n (n - 1) (λ j. vanishing F (s j) k (s (n - 1)))))) end
     ∙ factors_are F g.met.F.Field.laws n k s apart (n - 1) (omega (arith, c.requires.some))
+
+-- where nothing is answered nothing is said of the answer
+pub returns-in_err-factors : goal.returns-in_err-factors
+returns-in_err-factors g c =
+    IfOk-from_err c.from_residual-in_err-factors.result _ c.from_residual-in_err-factors.ensures.0
+
+pub returns-in_err-push : goal.returns-in_err-push
+returns-in_err-push g c =
+    IfOk-from_err c.from_residual-in_err-push.result _ c.from_residual-in_err-push.ensures.0
+
+pub returns-in_err-push-2 : goal.returns-in_err-push-2
+returns-in_err-push-2 g c =
+    IfOk-from_err c.from_residual-in_err-push-2.result _ c.from_residual-in_err-push-2.ensures.0

@@ -1,6 +1,8 @@
-use Rattle.std.proofs.Common.{refl}
+use Rattle.std.proofs.Common.{◌+◌, ◌<◌, refl, sym, subst}
 use Rattle.algebra.specs.Nested.{lists}
-use Rattle.p3_fri_masks.proofs.ManyMasks.{size_by_first, made_as_drawn, past_as_drawn}
+use Rattle.p3_matrix.specs.Matrix.{matrix_width}
+use Rattle.p3_fri_masks.proofs.ManyMasks.{size_by_first, made_as_drawn, past_as_drawn, some_mapped}
+use Rattle.std.proofs.lemmas.Result.{IfOk-from_err}
 use Rattle.p3_fri_masks.proofs.ldes.draw_masks.Goals as goal
 
 pub returns-clause-masks : goal.returns-clause-masks
@@ -34,3 +36,30 @@ returns-clause-past g c =
     c.in-Some.ensures.1 in
     past_as_drawn F (λ d. d.shift) (λ d. d.log_size) f r chunks s chunks c.in-Some.size _ _ refl
     size made.ensures.past c.in_ok-masks.ensures.past
+
+-- where nothing is answered nothing is said of the answer
+pub returns-in_err-masks-clause-masks : goal.returns-in_err-masks-clause-masks
+returns-in_err-masks-clause-masks g c =
+    IfOk-from_err c.from_residual-in_err-masks.result _ c.from_residual-in_err-masks.ensures.0
+
+pub returns-in_err-masks-clause-past : goal.returns-in_err-masks-clause-past
+returns-in_err-masks-clause-past g c =
+    IfOk-from_err c.from_residual-in_err-masks.result _ c.from_residual-in_err-masks.ensures.0
+
+pub returns-in_err-masks-clause-rows : goal.returns-in_err-masks-clause-rows
+returns-in_err-masks-clause-rows g c =
+    IfOk-from_err c.from_residual-in_err-masks.result _ c.from_residual-in_err-masks.ensures.0
+
+pub returns-in_err-masks-clause-widths : goal.returns-in_err-masks-clause-widths
+returns-in_err-masks-clause-widths g c =
+    IfOk-from_err c.from_residual-in_err-masks.result _ c.from_residual-in_err-masks.ensures.0
+
+pub index-requires-2 : goal.index-requires-2
+index-requires-2 g c =
+    let wider = c.in_ok-wider.wider in
+    subst (λ n. 0 < n) (sym wider.ok.0)
+    (some_mapped matrix_width (λ e. matrix_width e.1 + c.args.count) wider.items c.args.chunks.now
+    c.in_ok-wider.ensures.widths c.requires.some)
+
+pub quotient_masks-requires-clause-disjoint : goal.quotient_masks-requires-clause-disjoint
+quotient_masks-requires-clause-disjoint g c = c.requires.disjoint

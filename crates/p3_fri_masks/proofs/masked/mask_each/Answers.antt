@@ -3,6 +3,7 @@ use Rattle.std.specs.List.{Any}
 use Rattle.p3_matrix.proofs.Words.{past_none}
 use Rattle.p3_fri_masks.proofs.Batches.{none_masked, one_more_masked, past_one_more, all_left, one_fewer, none_left}
 use Rattle.p3_fri_masks.specs.Masked.{IsTooWide}
+use Rattle.std.proofs.lemmas.Result.{IfOk-from_err}
 use Rattle.p3_fri_masks.proofs.masked.mask_each.Goals as goal
 
 pub loop-domain-init : goal.loop-domain-init
@@ -73,3 +74,36 @@ returns-clause-too_wide g c wide =
     none (λ e. IsTooWide c.args.num_random_codewords e.1) c.args.evaluations.items
     (subst (λ es. All (λ e. ¬ IsTooWide c.args.num_random_codewords e.1) es)
     c.deref.ensures.value c.in_ok-check_widths.ensures) wide
+
+-- where nothing is answered nothing is said of the answer
+pub returns-in_err-check_widths-clause-masked : goal.returns-in_err-check_widths-clause-masked
+returns-in_err-check_widths-clause-masked g c =
+    IfOk-from_err c.from_residual.result _ c.from_residual.ensures.0
+
+pub returns-in_err-check_widths-clause-past : goal.returns-in_err-check_widths-clause-past
+returns-in_err-check_widths-clause-past g c =
+    IfOk-from_err c.from_residual.result _ c.from_residual.ensures.0
+
+pub returns-in_err-mask-clause-masked : goal.returns-in_err-mask-clause-masked
+returns-in_err-mask-clause-masked g c =
+    IfOk-from_err c.from_residual-in_err-mask.result _ c.from_residual-in_err-mask.ensures.0
+
+pub returns-in_err-mask-clause-past : goal.returns-in_err-mask-clause-past
+returns-in_err-mask-clause-past g c =
+    IfOk-from_err c.from_residual-in_err-mask.result _ c.from_residual-in_err-mask.ensures.0
+
+pub returns-in_err-masked-clause-masked : goal.returns-in_err-masked-clause-masked
+returns-in_err-masked-clause-masked g c =
+    IfOk-from_err c.from_residual-in_err-masked.result _ c.from_residual-in_err-masked.ensures.0
+
+pub returns-in_err-masked-clause-past : goal.returns-in_err-masked-clause-past
+returns-in_err-masked-clause-past g c =
+    IfOk-from_err c.from_residual-in_err-masked.result _ c.from_residual-in_err-masked.ensures.0
+
+pub returns-in_err-push-clause-masked : goal.returns-in_err-push-clause-masked
+returns-in_err-push-clause-masked g c =
+    IfOk-from_err c.from_residual-in_err-push.result _ c.from_residual-in_err-push.ensures.0
+
+pub returns-in_err-push-clause-past : goal.returns-in_err-push-clause-past
+returns-in_err-push-clause-past g c =
+    IfOk-from_err c.from_residual-in_err-push.result _ c.from_residual-in_err-push.ensures.0

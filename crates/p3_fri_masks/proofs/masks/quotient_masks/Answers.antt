@@ -6,6 +6,7 @@ use Rattle.p3_fri_masks.specs.Draws.{random_rows}
 use Rattle.p3_fri_masks.proofs.RandomRows.{length-random_rows, length-random_row}
 use Rattle.p3_fri_masks.proofs.Sums.{masks_are}
 use Rattle.p3_fri_masks.proofs.Weights.{length-mask_factors}
+use Rattle.std.proofs.lemmas.Result.{IfOk-from_err}
 use Rattle.p3_fri_masks.proofs.masks.quotient_masks.Goals as goal
 
 pub balancing_mask-requires-clause-count : goal.balancing_mask-requires-clause-count
@@ -44,3 +45,28 @@ returns-clause-masks g c =
     (ap lists c.in_ok-push.ensures.items
     ∙ map-append (λ vector. vector.items) masks (c.in_ok-last.last ∷ [])
     ∙ ap (λ ms. ms ++ c.in_ok-last.last.items ∷ []) (ap lists (sym c.deref-2.ensures.value)))
+
+-- where nothing is answered nothing is said of the answer
+pub returns-in_err-factors-clause-masks : goal.returns-in_err-factors-clause-masks
+returns-in_err-factors-clause-masks g c =
+    IfOk-from_err c.from_residual-in_err-factors.result _ c.from_residual-in_err-factors.ensures.0
+
+pub returns-in_err-factors-clause-past : goal.returns-in_err-factors-clause-past
+returns-in_err-factors-clause-past g c =
+    IfOk-from_err c.from_residual-in_err-factors.result _ c.from_residual-in_err-factors.ensures.0
+
+pub returns-in_err-last-clause-masks : goal.returns-in_err-last-clause-masks
+returns-in_err-last-clause-masks g c =
+    IfOk-from_err c.from_residual-in_err-last.result _ c.from_residual-in_err-last.ensures.0
+
+pub returns-in_err-last-clause-past : goal.returns-in_err-last-clause-past
+returns-in_err-last-clause-past g c =
+    IfOk-from_err c.from_residual-in_err-last.result _ c.from_residual-in_err-last.ensures.0
+
+pub returns-in_err-push-clause-masks : goal.returns-in_err-push-clause-masks
+returns-in_err-push-clause-masks g c =
+    IfOk-from_err c.from_residual-in_err-push.result _ c.from_residual-in_err-push.ensures.0
+
+pub returns-in_err-push-clause-past : goal.returns-in_err-push-clause-past
+returns-in_err-push-clause-past g c =
+    IfOk-from_err c.from_residual-in_err-push.result _ c.from_residual-in_err-push.ensures.0

@@ -1,6 +1,7 @@
 use Rattle.std.proofs.Common.{◌≡◌, length, refl, ap, arith}
 use Rattle.p3_fri_masks.specs.Padded.{IsPadded}
 use Rattle.p3_fri_masks.proofs.Batches.{none_paired, one_more_paired, all_left, one_fewer, none_left}
+use Rattle.std.proofs.lemmas.Result.{IfOk-from_err}
 use Rattle.p3_fri_masks.proofs.padded.pad_each.Goals as goal
 
 pub loop-domain-init : goal.loop-domain-init
@@ -34,3 +35,12 @@ returns g c =
     let all = none_left c.loop-domain.yielded c.loop-domain.domain-iterator.rest.items c.args.evaluations.items
     c.loop-domain.domain-iterator.rest.len c.loop-domain.invariant.left c.in-None.ensures.steps.0 in
     rw (← all) c.loop-domain.invariant.padded_so_far
+
+-- where nothing is answered nothing is said of the answer
+pub returns-in_err-pad : goal.returns-in_err-pad
+returns-in_err-pad g c =
+    IfOk-from_err c.from_residual-in_err-pad.result _ c.from_residual-in_err-pad.ensures.0
+
+pub returns-in_err-push : goal.returns-in_err-push
+returns-in_err-push g c =
+    IfOk-from_err c.from_residual-in_err-push.result _ c.from_residual-in_err-push.ensures.0
