@@ -132,17 +132,11 @@ returns-clause-rows g c =
     (all_read g (goal.at.returns-clause-rows g c).In-None)
 
 -- where nothing is answered nothing is said of the answer
-pub returns-in-Err-clause-indices : goal.returns-in-Err-clause-indices
-returns-in-Err-clause-indices g c = tt
-
 pub returns-in-Err-fold_to_final-clause-indices : goal.returns-in-Err-fold_to_final-clause-indices
 returns-in-Err-fold_to_final-clause-indices g c = tt
 
 pub returns-clause-refusal : goal.returns-clause-refusal
 returns-clause-refusal g c = tt
-
-pub returns-in-Err-clause-rows : goal.returns-in-Err-clause-rows
-returns-in-Err-clause-rows g c = tt
 
 pub returns-in-Err-fold_to_final-clause-rows : goal.returns-in-Err-fold_to_final-clause-rows
 returns-in-Err-fold_to_final-clause-rows g c = tt

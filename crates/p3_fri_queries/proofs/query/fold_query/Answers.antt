@@ -13,7 +13,6 @@ use Rattle.p3_fri_queries.proofs.Orders.{value_of, rows_of}
 use Rattle.p3_fri_queries.proofs.FoldedRounds.{as_many, sum_within}
 use Rattle.p3_fri_queries.proofs.query.fold_query.Given.{Over}
 use Rattle.p3_fri_queries.proofs.query.fold_query.Goals.{After-as_slice-inputs, After-folded_arities-folded}
-use Rattle.std.proofs.lemmas.Result.{IfOk-from_err}
 use Rattle.p3_fri_queries.proofs.query.fold_query.Goals as goal
 
 as_handed_on : {T A : Type 0} (r : Result T A) (e : A) → IsErr r × IsErrAnd r (λ x. x ≡ e) → r ≡ Err e
@@ -112,15 +111,3 @@ returns-in_err-link-clause-exact g c =
 pub returns-in_err-link-clause-refusal : goal.returns-in_err-link-clause-refusal
 returns-in_err-link-clause-refusal g c =
     handed_on _ c.from_residual-in_err-link.result OutOfMemory c.from_residual-in_err-link.ensures tt
-
--- where nothing is answered nothing is said of the answer
-pub returns-clause-refusal : goal.returns-clause-refusal
-returns-clause-refusal g c = tt
-
-pub returns-in_err-first-clause-value : goal.returns-in_err-first-clause-value
-returns-in_err-first-clause-value g c =
-    IfOk-from_err c.from_residual.result _ c.from_residual.ensures.0
-
-pub returns-in_err-link-clause-value : goal.returns-in_err-link-clause-value
-returns-in_err-link-clause-value g c =
-    IfOk-from_err c.from_residual-in_err-link.result _ c.from_residual-in_err-link.ensures.0

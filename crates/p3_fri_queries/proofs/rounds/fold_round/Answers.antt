@@ -17,9 +17,3 @@ fold_row-folded-requires-clause-width g c =
     ap length (c.as_slice.ensures.value ∙ c.in_ok-row.ensures)
     ∙ length-insert siblings _ c.args.link.value below ∙ add-one (length siblings)
     ∙ c.requires.siblings
-
-pub mul-requires : goal.mul-requires
-mul-requires g c = g.met.EF.Field.can_mul_law _ _
-
-pub add-requires : goal.add-requires
-add-requires g c = g.met.EF.Field.can_add_law _ _

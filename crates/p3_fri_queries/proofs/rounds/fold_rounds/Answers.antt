@@ -102,7 +102,3 @@ returns-in_err-value-clause-value g c =
 pub offset_bounds-setting-round-in-loop-round : goal.offset_bounds-setting-round-in-loop-round
 offset_bounds-setting-round-in-loop-round g c =
     search (rules, lt_of_lt_of_le c.loop-round-test.true c.requires.betas)
-
-pub offset_bounds-setting-round-in-loop-round-2 : goal.offset_bounds-setting-round-in-loop-round-2
-offset_bounds-setting-round-in-loop-round-2 g c =
-    search (rules, lt_of_lt_of_le c.loop-round-test.true c.requires.openings)
