@@ -6,7 +6,6 @@ use Rattle.p3_pcs.specs.Requests.{Request}
 use Rattle.p3_fri_openings.specs.Requests.{round_request, matrices_request}
 use Rattle.algebra.proofs.Growing.{mapped_next, mapped_end}
 use Rattle.p3_fri_hiding_openings.specs.Requests.{inner_request}
-use Rattle.std.proofs.lemmas.Result.{IfOk-from_err}
 use Rattle.p3_fri_hiding_openings.proofs.gather.hidden_rounds.Goals as goal
 
 pub loop-request-preserved : goal.loop-request-preserved
@@ -31,8 +30,3 @@ returns g c =
     c.loop-request.request-index []
     (map round_request c.loop-request.rounds.items) c.loop-request-test.false
     c.loop-request.invariant
-
--- where nothing is answered nothing is said of the answer
-pub returns-in_err-push : goal.returns-in_err-push
-returns-in_err-push g c =
-    IfOk-from_err c.from_residual-in_err-push.result _ c.from_residual-in_err-push.ensures.0

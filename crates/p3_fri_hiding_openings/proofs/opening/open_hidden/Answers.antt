@@ -147,13 +147,3 @@ open_rounds-requires-clause-off g c =
     off_rounds (fields_of g) (parameters_of c.args.params.now) g.InputMmcs.Mmcs.committed
     c.deref.result.now (map inner_request c.args.requests.now)
     (same g (goal.at.open_rounds-requires-clause-off g c).After-deref) c.requires.passes.points
-
-pub returns-clause-not_checked : goal.returns-clause-not_checked
-returns-clause-not_checked g c = c.open_rounds.ensures.not_checked
-
--- where nothing is answered nothing is said of the answer
-pub returns-in-Err-clause-opened : goal.returns-in-Err-clause-opened
-returns-in-Err-clause-opened g c = tt
-
-pub returns-in-Err-hidden_data-clause-opened : goal.returns-in-Err-hidden_data-clause-opened
-returns-in-Err-hidden_data-clause-opened g c = tt

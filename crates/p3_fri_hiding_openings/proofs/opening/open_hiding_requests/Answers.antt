@@ -22,7 +22,6 @@ use Rattle.p3_fri_hiding_openings.proofs.Stopped.{by_opening, by_checks, moved_a
 use Rattle.p3_fri_hiding_openings.proofs.opening.open_hiding_requests.Given.{Over}
 use Rattle.p3_fri_hiding_openings.proofs.opening.open_hiding_requests.Goals.{After-mark_all}
 use Rattle.p3_fri_hiding_openings.proofs.opening.open_hiding_requests.Goals.{After-split_opening}
-use Rattle.std.proofs.lemmas.Result.{IfOk-from_err}
 use Rattle.p3_fri_hiding_openings.proofs.opening.open_hiding_requests.Goals as goal
 
 abbrev fields_of : (g : Over) → Fields g.row.F.Denot g.row.EF.Denot
@@ -202,39 +201,6 @@ returns-clause-untouched g c =
     IfErr-weaker c.split_opening.result _ _
     (λ e is leaves. absurd (subst (λ x. LeavesHidingState x) is leaves))
     c.split_opening.ensures.refused
-
--- where nothing is answered nothing is said of the answer
-pub returns-in_err-check_requests-clause-kept : goal.returns-in_err-check_requests-clause-kept
-returns-in_err-check_requests-clause-kept g c =
-    IfOk-from_err c.from_residual.result _ c.from_residual.ensures.0
-
-pub returns-in_err-check_requests-clause-values : goal.returns-in_err-check_requests-clause-values
-returns-in_err-check_requests-clause-values g c =
-    IfOk-from_err c.from_residual.result _ c.from_residual.ensures.0
-
-pub returns-in_err-opening-clause-kept : goal.returns-in_err-opening-clause-kept
-returns-in_err-opening-clause-kept g c =
-    IfOk-from_err c.from_residual-in_err-opening.result _ c.from_residual-in_err-opening.ensures.0
-
-pub returns-in_err-opening-clause-values : goal.returns-in_err-opening-clause-values
-returns-in_err-opening-clause-values g c =
-    IfOk-from_err c.from_residual-in_err-opening.result _ c.from_residual-in_err-opening.ensures.0
-
-pub returns-in_err-check_requests-clause-accepted : goal.returns-in_err-check_requests-clause-accepted
-returns-in_err-check_requests-clause-accepted g c honest =
-    IfOk-from_err c.from_residual.result _ c.from_residual.ensures.0
-
-pub returns-in_err-check_requests-clause-state : goal.returns-in_err-check_requests-clause-state
-returns-in_err-check_requests-clause-state g c honest =
-    IfOk-from_err c.from_residual.result _ c.from_residual.ensures.0
-
-pub returns-in_err-opening-clause-accepted : goal.returns-in_err-opening-clause-accepted
-returns-in_err-opening-clause-accepted g c honest =
-    IfOk-from_err c.from_residual-in_err-opening.result _ c.from_residual-in_err-opening.ensures.0
-
-pub returns-in_err-opening-clause-state : goal.returns-in_err-opening-clause-state
-returns-in_err-opening-clause-state g c honest =
-    IfOk-from_err c.from_residual-in_err-opening.result _ c.from_residual-in_err-opening.ensures.0
 
 pub returns-in_err-check_requests-clause-refused :
     goal.returns-in_err-check_requests-clause-refused
