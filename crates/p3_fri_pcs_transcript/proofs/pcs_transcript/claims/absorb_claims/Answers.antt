@@ -83,9 +83,6 @@ returns-clause-absorbed g c =
     (ap (λ claims. lists_of_claims claims) (take_all c.loop-claim.claim-index c.args.claims.now c.loop-claim-test.false))).absorbed
 
 -- where nothing is answered nothing is said of the answer
-pub returns-clause-fault : goal.returns-clause-fault
-returns-clause-fault g c = tt
-
 pub returns-in-Err-clause-absorbed : goal.returns-in-Err-clause-absorbed
 returns-in-Err-clause-absorbed g c = tt
 

@@ -84,21 +84,6 @@ pub returns-in-Err-played-clause-unchanged : goal.returns-in-Err-played-clause-u
 returns-in-Err-played-clause-unchanged g c = λ is. step_not_seed is
 
 -- where nothing is answered nothing is said of the answer
-pub returns-in-Err-clause-betas : goal.returns-in-Err-clause-betas
-returns-in-Err-clause-betas g c = tt
-
-pub returns-in-Err-clause-found : goal.returns-in-Err-clause-found
-returns-in-Err-clause-found g c = tt
-
-pub returns-in-Err-clause-indices : goal.returns-in-Err-clause-indices
-returns-in-Err-clause-indices g c = tt
-
-pub returns-in-Err-clause-replay : goal.returns-in-Err-clause-replay
-returns-in-Err-clause-replay g c = tt
-
-pub returns-in-Err-clause-witnesses : goal.returns-in-Err-clause-witnesses
-returns-in-Err-clause-witnesses g c = tt
-
 pub returns-in-Err-played-clause-betas : goal.returns-in-Err-played-clause-betas
 returns-in-Err-played-clause-betas g c = tt
 

@@ -101,15 +101,6 @@ pub returns-in-Err-replayed-clause-unchanged : goal.returns-in-Err-replayed-clau
 returns-in-Err-replayed-clause-unchanged g c = λ is. step_not_seed is
 
 -- where nothing is answered nothing is said of the answer
-pub returns-in-Err-clause-betas : goal.returns-in-Err-clause-betas
-returns-in-Err-clause-betas g c = tt
-
-pub returns-in-Err-clause-indices : goal.returns-in-Err-clause-indices
-returns-in-Err-clause-indices g c = tt
-
-pub returns-in-Err-clause-replay : goal.returns-in-Err-clause-replay
-returns-in-Err-clause-replay g c = tt
-
 pub returns-in-Err-replayed-clause-betas : goal.returns-in-Err-replayed-clause-betas
 returns-in-Err-replayed-clause-betas g c = tt
 

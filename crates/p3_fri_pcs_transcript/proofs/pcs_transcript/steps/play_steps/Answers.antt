@@ -99,28 +99,3 @@ returns-in-Err-play_test-clause-reached g c =
     reaches_inside (moves_of g) g.EF.ExtensionField.coefficients (all_values c.args.opened_values.now.items) c.args.transcript.now.challenger.now c.claimed_openings.new.self.challenger.now
     (pcs_shape c.claimed_openings.new.self.shape).batch_pow_bits c.batch_phase.new.self.challenger.now _ _ (Some (unwrap_or c.in-Ok.drawn.1 g.F.Field.ops.zero))
     c.claimed_openings.ensures.state c.in-Ok.ensures.batch c.in-Err-play_test.ensures.reached
-
--- where nothing is answered nothing is said of the answer
-pub returns-in-Err-clause-betas : goal.returns-in-Err-clause-betas
-returns-in-Err-clause-betas g c = tt
-
-pub returns-in-Err-clause-indices : goal.returns-in-Err-clause-indices
-returns-in-Err-clause-indices g c = tt
-
-pub returns-in-Err-clause-steps : goal.returns-in-Err-clause-steps
-returns-in-Err-clause-steps g c = tt
-
-pub returns-in-Err-clause-witnesses : goal.returns-in-Err-clause-witnesses
-returns-in-Err-clause-witnesses g c = tt
-
-pub returns-in-Err-play_test-clause-betas : goal.returns-in-Err-play_test-clause-betas
-returns-in-Err-play_test-clause-betas g c = tt
-
-pub returns-in-Err-play_test-clause-indices : goal.returns-in-Err-play_test-clause-indices
-returns-in-Err-play_test-clause-indices g c = tt
-
-pub returns-in-Err-play_test-clause-steps : goal.returns-in-Err-play_test-clause-steps
-returns-in-Err-play_test-clause-steps g c = tt
-
-pub returns-in-Err-play_test-clause-witnesses : goal.returns-in-Err-play_test-clause-witnesses
-returns-in-Err-play_test-clause-witnesses g c = tt

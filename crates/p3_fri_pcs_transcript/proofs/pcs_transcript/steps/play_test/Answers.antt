@@ -24,25 +24,3 @@ returns-in-Err-clause-reached g c =
     reaches_lent (moves_of g) g.F.Field.ops g.EF.ExtensionField.DIMENSION (fri_shape c.args.test) c.args.transcript.now.challenger.now
     c.begin_delegate.result.now c.play_fri-tested.new.challenger c.in-Err.refusal c.begin_delegate.ensures.value
     (λ s. c.in-Err.ensures.unchanged (ap Err s)) (λ no. c.in-Err.ensures.absorbed (λ s. no cc))
-
--- where nothing is answered nothing is said of the answer
-pub returns-in-Err-clause-betas : goal.returns-in-Err-clause-betas
-returns-in-Err-clause-betas g c = tt
-
-pub returns-in-Err-clause-found : goal.returns-in-Err-clause-found
-returns-in-Err-clause-found g c = tt
-
-pub returns-in-Err-clause-indices : goal.returns-in-Err-clause-indices
-returns-in-Err-clause-indices g c = tt
-
-pub returns-in-Err-clause-replay : goal.returns-in-Err-clause-replay
-returns-in-Err-clause-replay g c = tt
-
-pub returns-in-Err-clause-steps : goal.returns-in-Err-clause-steps
-returns-in-Err-clause-steps g c = tt
-
-pub returns-in-Err-clause-witnesses : goal.returns-in-Err-clause-witnesses
-returns-in-Err-clause-witnesses g c = tt
-
-pub returns-in-Ok-clause-refused : goal.returns-in-Ok-clause-refused
-returns-in-Ok-clause-refused g c = tt

@@ -118,15 +118,6 @@ returns-in-Err-replay_test-clause-reached g c =
     c.in-Ok.ensures.state c.in-Ok-batch_phase.ensures.batch c.in-Err-replay_test.ensures.reached
 
 -- where nothing is answered nothing is said of the answer
-pub returns-in-Err-batch_phase-clause-betas : goal.returns-in-Err-batch_phase-clause-betas
-returns-in-Err-batch_phase-clause-betas g c = tt
-
-pub returns-in-Err-batch_phase-clause-indices : goal.returns-in-Err-batch_phase-clause-indices
-returns-in-Err-batch_phase-clause-indices g c = tt
-
-pub returns-in-Err-batch_phase-clause-steps : goal.returns-in-Err-batch_phase-clause-steps
-returns-in-Err-batch_phase-clause-steps g c = tt
-
 pub returns-in-Err-replay_test-clause-betas : goal.returns-in-Err-replay_test-clause-betas
 returns-in-Err-replay_test-clause-betas g c = tt
 

@@ -33,10 +33,6 @@ pub returns-in_err-witness-clause-batch : goal.returns-in_err-witness-clause-bat
 returns-in_err-witness-clause-batch g c =
     IfOk-from_err c.from_residual.result _ c.from_residual.ensures.0
 
-pub returns-in_err-witness-clause-steps : goal.returns-in_err-witness-clause-steps
-returns-in_err-witness-clause-steps g c =
-    IfOk-from_err c.from_residual.result _ c.from_residual.ensures.0
-
 pub returns-in_err-witness-clause-witness : goal.returns-in_err-witness-clause-witness
 returns-in_err-witness-clause-witness g c =
     IfOk-from_err c.from_residual.result _ c.from_residual.ensures.0

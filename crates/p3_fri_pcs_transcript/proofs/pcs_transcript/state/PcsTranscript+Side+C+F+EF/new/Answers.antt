@@ -13,7 +13,3 @@ returns-clause-claims g c =
 pub returns-in_err-seed-clause-claims : goal.returns-in_err-seed-clause-claims
 returns-in_err-seed-clause-claims g c =
     IfOk-from_err c.from_residual.result _ c.from_residual.ensures.0
-
-pub returns-in_err-seed-clause-starts : goal.returns-in_err-seed-clause-starts
-returns-in_err-seed-clause-starts g c =
-    IfOk-from_err c.from_residual.result _ c.from_residual.ensures.0

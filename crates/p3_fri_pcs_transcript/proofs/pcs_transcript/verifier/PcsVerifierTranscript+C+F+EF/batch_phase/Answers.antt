@@ -26,16 +26,3 @@ unfolding pcs_shape
 returns-in-Ok-clause-steps g c =
     let d = g.EF.ExtensionField.DIMENSION in
     rest_of _ _ _ _ (c.in-Ok.ensures.steps (alpha_left d) (after_claims d (pcs_shape c.args.self.now.shape) _ c.requires.all_claims_played)) c.challenge_extension.ensures.steps
-
--- where nothing is answered nothing is said of the answer
-pub returns-in-Err-Missing-clause-batch : goal.returns-in-Err-Missing-clause-batch
-returns-in-Err-Missing-clause-batch g c = tt
-
-pub returns-in-Err-Missing-clause-steps : goal.returns-in-Err-Missing-clause-steps
-returns-in-Err-Missing-clause-steps g c = tt
-
-pub returns-in-Err-Wrong-clause-batch : goal.returns-in-Err-Wrong-clause-batch
-returns-in-Err-Wrong-clause-batch g c = tt
-
-pub returns-in-Err-Wrong-clause-steps : goal.returns-in-Err-Wrong-clause-steps
-returns-in-Err-Wrong-clause-steps g c = tt

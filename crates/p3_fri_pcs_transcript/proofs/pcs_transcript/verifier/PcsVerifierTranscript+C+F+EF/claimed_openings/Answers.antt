@@ -73,10 +73,3 @@ unfolding pcs_shape
 returns-in-Err-clause-whole g c = λ same.
     absurd (fault_refused 0 _ _ c.in-Err.failure (returns-in-Err-clause-fault g c)
     ([], ap widths (sym same) ∙ sym (append-nil (widths (counts_of_claims c.args.claims.now)))))
-
--- where nothing is answered nothing is said of the answer
-pub returns-in-Err-clause-state : goal.returns-in-Err-clause-state
-returns-in-Err-clause-state g c = tt
-
-pub returns-in-Err-clause-steps : goal.returns-in-Err-clause-steps
-returns-in-Err-clause-steps g c = tt
