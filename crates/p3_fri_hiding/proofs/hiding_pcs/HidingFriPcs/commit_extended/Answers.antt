@@ -59,27 +59,7 @@ returns-clause-honest g c =
     c.args.evaluations.items c.requires.heights c.requires.within)
     c.in_ok-commitment.ensures.words)
 
--- of what is answered no refusal is said
-pub returns-clause-refused : goal.returns-clause-refused
-returns-clause-refused g c = tt
-
 -- where nothing is answered nothing is said of the answer
 pub returns-in_err-commitment-clause-commitment : goal.returns-in_err-commitment-clause-commitment
 returns-in_err-commitment-clause-commitment g c =
-    IfOk-from_err c.from_residual.result _ c.from_residual.ensures.0
-
-pub returns-in_err-commitment-clause-data : goal.returns-in_err-commitment-clause-data
-returns-in_err-commitment-clause-data g c =
-    IfOk-from_err c.from_residual.result _ c.from_residual.ensures.0
-
-pub returns-in_err-commitment-clause-honest : goal.returns-in_err-commitment-clause-honest
-returns-in_err-commitment-clause-honest g c =
-    IfOk-from_err c.from_residual.result _ c.from_residual.ensures.0
-
-pub returns-in_err-commitment-clause-of_scheme : goal.returns-in_err-commitment-clause-of_scheme
-returns-in_err-commitment-clause-of_scheme g c =
-    IfOk-from_err c.from_residual.result _ c.from_residual.ensures.0
-
-pub returns-in_err-commitment-clause-words : goal.returns-in_err-commitment-clause-words
-returns-in_err-commitment-clause-words g c =
     IfOk-from_err c.from_residual.result _ c.from_residual.ensures.0

@@ -45,7 +45,3 @@ returns-clause-values g c words =
     c.in_ok-evaluations_on_domain.field-0
     (c.index-matrices-index.is ∙ ap (λ ms. get_or ms c.args.index matrix) c.committed_matrices-matrices.ensures)
     words c.args.domain.shift c.args.domain.log_size c.in_ok-evaluations_on_domain.ensures
-
--- of what is answered no refusal is said
-pub returns-clause-refused : goal.returns-clause-refused
-returns-clause-refused g c = tt

@@ -107,17 +107,11 @@ returns-clause-state g c honest =
     c.args.challenger.now))
     (c.open_hiding_requests.ensures.state honest)
 
-pub returns-clause-unmoved : goal.returns-clause-unmoved
-returns-clause-unmoved g c = c.open_hiding_requests.ensures.unmoved
-
 pub returns-clause-checked : goal.returns-clause-checked
 returns-clause-checked g c = c.open_hiding_requests.ensures.checked
 
 pub returns-clause-opened : goal.returns-clause-opened
 returns-clause-opened g c = c.open_hiding_requests.ensures.opened
-
-pub returns-clause-untouched : goal.returns-clause-untouched
-returns-clause-untouched g c = c.open_hiding_requests.ensures.untouched
 
 pub returns-clause-refused : goal.returns-clause-refused
 returns-clause-refused g c = c.open_hiding_requests.ensures.refused

@@ -63,6 +63,3 @@ returns-clause-stands g c =
     (parameters_of c.args.self.now.fri) c.args.self.now.num_random_codewords None
     claims (opened_values random) (proof_of c.args.proof.now.1) c.args.challenger.now))
     c.as_slice-random.ensures.value c.verify_with_random_values.ensures.stands
-
-pub returns-clause-unmoved : goal.returns-clause-unmoved
-returns-clause-unmoved g c = c.verify_with_random_values.ensures.unmoved

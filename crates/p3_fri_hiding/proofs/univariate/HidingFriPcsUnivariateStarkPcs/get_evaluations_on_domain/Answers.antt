@@ -1,7 +1,4 @@
 use Rattle.p3_fri_hiding.proofs.univariate.HidingFriPcsUnivariateStarkPcs.get_evaluations_on_domain.Goals as goal
 
-pub returns-clause-refused : goal.returns-clause-refused
-returns-clause-refused g c = c.get_evaluations_on_domain.ensures.refused
-
 pub returns-clause-values : goal.returns-clause-values
 returns-clause-values g c = c.get_evaluations_on_domain.ensures.values

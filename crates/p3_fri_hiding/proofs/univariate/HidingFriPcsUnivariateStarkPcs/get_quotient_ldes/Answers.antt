@@ -37,21 +37,3 @@ returns-clause-words g c =
 
 pub returns-clause-kept : goal.returns-clause-kept
 returns-clause-kept g c = c.get_quotient_ldes.ensures.kept
-
-pub returns-clause-low_degree : goal.returns-clause-low_degree
-returns-clause-low_degree g c = c.get_quotient_ldes.ensures.low_degree
-
-pub returns-clause-refused : goal.returns-clause-refused
-returns-clause-refused g c = c.get_quotient_ldes.ensures.refused
-
-pub returns-clause-committable : goal.returns-clause-committable
-returns-clause-committable g c = c.get_quotient_ldes.ensures.committable
-
-pub returns-clause-sizes : goal.returns-clause-sizes
-returns-clause-sizes g c = c.get_quotient_ldes.ensures.sizes
-
-pub returns-clause-openable : goal.returns-clause-openable
-returns-clause-openable g c = c.get_quotient_ldes.ensures.openable
-
-pub returns-clause-recombined : goal.returns-clause-recombined
-returns-clause-recombined g c = c.get_quotient_ldes.ensures.recombined

@@ -105,11 +105,5 @@ returns-clause-unopened g c = c.open_hiding_requests.ensures.unopened
 pub returns-clause-checked : goal.returns-clause-checked
 returns-clause-checked g c = c.open_hiding_requests.ensures.checked
 
-pub returns-clause-untouched : goal.returns-clause-untouched
-returns-clause-untouched g c = c.open_hiding_requests.ensures.untouched
-
-pub returns-clause-unmoved : goal.returns-clause-unmoved
-returns-clause-unmoved g c = c.open_hiding_requests.ensures.unmoved
-
 pub returns-clause-opened : goal.returns-clause-opened
 returns-clause-opened g c = c.open_hiding_requests.ensures.opened
