@@ -92,29 +92,7 @@ returns-clause-round g c = λ h whole.
           (ap (λ (x : RowMajorMatrix _). rows x) same ∙ made.ensures.rows_of_word);
     }
 
--- of what is answered no refusal is said
-pub returns-clause-refused : goal.returns-clause-refused
-returns-clause-refused g c = tt
-
-pub returns-in-Err-clause-round : goal.returns-in-Err-clause-round
-returns-in-Err-clause-round g c = tt
-
-pub returns-in-Err-clause-steps : goal.returns-in-Err-clause-steps
-returns-in-Err-clause-steps g c = tt
-
 -- where nothing is answered nothing is said of the answer
-pub returns-in_err-commitment-clause-round : goal.returns-in_err-commitment-clause-round
-returns-in_err-commitment-clause-round g c =
-    IfOk-from_err c.from_residual.result _ c.from_residual.ensures.0
-
-pub returns-in_err-commitment-clause-steps : goal.returns-in_err-commitment-clause-steps
-returns-in_err-commitment-clause-steps g c =
-    IfOk-from_err c.from_residual.result _ c.from_residual.ensures.0
-
-pub returns-in_err-word-clause-round : goal.returns-in_err-word-clause-round
-returns-in_err-word-clause-round g c =
-    IfOk-from_err c.from_residual-in_err-word.result _ c.from_residual-in_err-word.ensures.0
-
 pub returns-in_err-word-clause-steps : goal.returns-in_err-word-clause-steps
 returns-in_err-word-clause-steps g c =
     IfOk-from_err c.from_residual-in_err-word.result _ c.from_residual-in_err-word.ensures.0

@@ -113,14 +113,6 @@ pub returns-in_err-open_round-clause-each : goal.returns-in_err-open_round-claus
 returns-in_err-open_round-clause-each g c =
     IfOk-from_err c.from_residual-in_err-open_round.result _ c.from_residual-in_err-open_round.ensures.0
 
-pub returns-in_err-openings-clause-count : goal.returns-in_err-openings-clause-count
-returns-in_err-openings-clause-count g c =
-    IfOk-from_err c.from_residual.result _ c.from_residual.ensures.0
-
-pub returns-in_err-openings-clause-each : goal.returns-in_err-openings-clause-each
-returns-in_err-openings-clause-each g c =
-    IfOk-from_err c.from_residual.result _ c.from_residual.ensures.0
-
 pub returns-in_err-push-clause-count : goal.returns-in_err-push-clause-count
 returns-in_err-push-clause-count g c =
     IfOk-from_err c.from_residual-in_err-push.result _ c.from_residual-in_err-push.ensures.0

@@ -115,19 +115,3 @@ returns-in-Ok-play_queries-clause-played g c = λ top whole.
     g.C.CanObserve-1.observed g.C.CanObserve-1.observed g.C.CanObserve-2.observed
     g.C.CanSample.sampled g.EF.ExtensionField.of_coefficients g.EF.ExtensionField.DIMENSION
     g.C.CanSampleBits.sampled_bits c.in-Ok-play_queries.ensures.played)
-
--- where nothing is answered nothing is said of the answer
-pub returns-in-Err-clause-played : goal.returns-in-Err-clause-played
-returns-in-Err-clause-played g c = tt
-
-pub returns-in-Err-clause-steps : goal.returns-in-Err-clause-steps
-returns-in-Err-clause-steps g c = tt
-
-pub returns-in-Err-play_queries-clause-played : goal.returns-in-Err-play_queries-clause-played
-returns-in-Err-play_queries-clause-played g c = tt
-
-pub returns-in-Err-play_queries-clause-steps : goal.returns-in-Err-play_queries-clause-steps
-returns-in-Err-play_queries-clause-steps g c = tt
-
-pub returns-in-Ok-play_queries-clause-refused : goal.returns-in-Ok-play_queries-clause-refused
-returns-in-Ok-play_queries-clause-refused g c = tt

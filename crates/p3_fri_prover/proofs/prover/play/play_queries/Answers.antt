@@ -11,7 +11,6 @@ use Rattle.p3_fri_relation.specs.Setting.{Fields}
 use Rattle.p3_fri_prover.specs.Played.{AreQueriesPlayed}
 use Rattle.p3_fri_prover.proofs.Plays.{queries_refused}
 use Rattle.p3_fri_prover.proofs.prover.play.play_queries.Given.{Over}
-use Rattle.std.proofs.lemmas.Result.{IfOk-from_err}
 use Rattle.p3_fri_prover.proofs.prover.play.play_queries.Goals as goal
 
 abbrev fields_at : (g : Over) → Fields g.row.F.Denot g.row.EF.Denot
@@ -73,21 +72,3 @@ returns-in-Err-clause-refused g c =
     (fri_shape c.args.transcript.now.shape) c.args.word.items (state_of c.args.transcript.now)
     c.deref.result.now c.in-Err.refusal (c.deref.ensures.value ∙ c.in_ok-final_poly.ensures)
     c.in-Err.ensures.refused (λ is. c.in-Err.ensures.none_passes (ap Err is))
-
--- where nothing is answered nothing is said of the answer
-pub returns-in-Err-clause-played : goal.returns-in-Err-clause-played
-returns-in-Err-clause-played g c = tt
-
-pub returns-in-Err-clause-steps : goal.returns-in-Err-clause-steps
-returns-in-Err-clause-steps g c = tt
-
-pub returns-in-Ok-clause-refused : goal.returns-in-Ok-clause-refused
-returns-in-Ok-clause-refused g c = tt
-
-pub returns-in_err-final_poly-clause-played : goal.returns-in_err-final_poly-clause-played
-returns-in_err-final_poly-clause-played g c =
-    IfOk-from_err c.from_residual.result _ c.from_residual.ensures.0
-
-pub returns-in_err-final_poly-clause-steps : goal.returns-in_err-final_poly-clause-steps
-returns-in_err-final_poly-clause-steps g c =
-    IfOk-from_err c.from_residual.result _ c.from_residual.ensures.0

@@ -56,10 +56,3 @@ play-requires-clause-described g c =
     subst (λ (n : FriNumbers). Describes n c.args.log_arities.now c.args.params.now.log_final_poly_len
     g.C.CanSampleBits.MAX_SAMPLE_BITS) (sym c.start-transcript.ensures.starts.shape)
     c.requires.described
-
--- where nothing is answered nothing is said of the answer
-pub returns-in-Err-clause-played : goal.returns-in-Err-clause-played
-returns-in-Err-clause-played g c = tt
-
-pub returns-in-Ok-clause-refused : goal.returns-in-Ok-clause-refused
-returns-in-Ok-clause-refused g c = tt

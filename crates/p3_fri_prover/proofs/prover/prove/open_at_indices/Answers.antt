@@ -59,19 +59,3 @@ returns-in_err-input_openings-clause-inputs_opened g c =
 pub returns-in_err-input_openings-clause-rounds_counted : goal.returns-in_err-input_openings-clause-rounds_counted
 returns-in_err-input_openings-clause-rounds_counted g c =
     IfOk-from_err c.from_residual-in_err-input_openings.result _ c.from_residual-in_err-input_openings.ensures.0
-
-pub returns-in_err-input_openings-clause-rounds_opened : goal.returns-in_err-input_openings-clause-rounds_opened
-returns-in_err-input_openings-clause-rounds_opened g c =
-    IfOk-from_err c.from_residual-in_err-input_openings.result _ c.from_residual-in_err-input_openings.ensures.0
-
-pub returns-in_err-positions-clause-inputs_opened : goal.returns-in_err-positions-clause-inputs_opened
-returns-in_err-positions-clause-inputs_opened g c =
-    IfOk-from_err c.from_residual.result _ c.from_residual.ensures.0
-
-pub returns-in_err-positions-clause-rounds_counted : goal.returns-in_err-positions-clause-rounds_counted
-returns-in_err-positions-clause-rounds_counted g c =
-    IfOk-from_err c.from_residual.result _ c.from_residual.ensures.0
-
-pub returns-in_err-positions-clause-rounds_opened : goal.returns-in_err-positions-clause-rounds_opened
-returns-in_err-positions-clause-rounds_opened g c =
-    IfOk-from_err c.from_residual.result _ c.from_residual.ensures.0

@@ -68,20 +68,12 @@ pub returns-in_err-input_openings-clause-final_poly : goal.returns-in_err-input_
 returns-in_err-input_openings-clause-final_poly g c =
     IfOk-from_err c.from_residual.result _ c.from_residual.ensures.0
 
-pub returns-in_err-input_openings-clause-inputs_opened : goal.returns-in_err-input_openings-clause-inputs_opened
-returns-in_err-input_openings-clause-inputs_opened g c =
-    IfOk-from_err c.from_residual.result _ c.from_residual.ensures.0
-
 pub returns-in_err-input_openings-clause-query_witness : goal.returns-in_err-input_openings-clause-query_witness
 returns-in_err-input_openings-clause-query_witness g c =
     IfOk-from_err c.from_residual.result _ c.from_residual.ensures.0
 
 pub returns-in_err-input_openings-clause-rounds_counted : goal.returns-in_err-input_openings-clause-rounds_counted
 returns-in_err-input_openings-clause-rounds_counted g c =
-    IfOk-from_err c.from_residual.result _ c.from_residual.ensures.0
-
-pub returns-in_err-input_openings-clause-rounds_opened : goal.returns-in_err-input_openings-clause-rounds_opened
-returns-in_err-input_openings-clause-rounds_opened g c =
     IfOk-from_err c.from_residual.result _ c.from_residual.ensures.0
 
 pub returns-in_err-input_openings-clause-witnesses : goal.returns-in_err-input_openings-clause-witnesses

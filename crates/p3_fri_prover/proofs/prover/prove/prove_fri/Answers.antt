@@ -282,15 +282,5 @@ returns-clause-refused g c = λ heights have.
     c.args.log_global_max_height (lists c.args.inputs.items) c.args.challenger.now
     g.C.GrindingChallenger.solution ((planned g (goal.at.returns-clause-refused g c).In-Ok refl).tall heights have)
 
--- where nothing is answered nothing is said of the answer
 pub returns-clause-unmoved : goal.returns-clause-unmoved
 returns-clause-unmoved g c = λ no. absurd no
-
-pub returns-in-Err-clause-batch_witness : goal.returns-in-Err-clause-batch_witness
-returns-in-Err-clause-batch_witness g c = tt
-
-pub returns-in-Err-test-clause-batch_witness : goal.returns-in-Err-test-clause-batch_witness
-returns-in-Err-test-clause-batch_witness g c = tt
-
-pub returns-in-Ok-opened-clause-unmoved : goal.returns-in-Ok-opened-clause-unmoved
-returns-in-Ok-opened-clause-unmoved g c = tt
