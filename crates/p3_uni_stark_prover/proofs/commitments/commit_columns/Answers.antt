@@ -22,6 +22,7 @@ use Rattle.p3_uni_stark_prover.proofs.Readings.{fit_readings}
 use Rattle.p3_uni_stark_prover.proofs.Refusals.{handed_on, trace_refused, reading_refused}
 use Rattle.p3_uni_stark_prover.proofs.Refusals.{chunks_refused, random_refused}
 use Rattle.p3_uni_stark_prover.proofs.commitments.commit_columns.Given.{Over}
+use Rattle.std.proofs.lemmas.Result.{IfOk-from_err}
 use Rattle.p3_uni_stark_prover.proofs.commitments.commit_columns.Goals as goal
 
 abbrev fields_of : (g : Over) → StarkFields g.row.F.Denot g.row.EF.Denot
@@ -394,3 +395,11 @@ returns-clause-committed g c =
     (λ ldes e. (g.met.P.TwoAdicStarkPcs.polynomials_law u).widths chunks (length chunks) ldes can e)
     c.in_ok-found.found c.in_ok-found.ensures.random c.split-random_data.result.0
     c.split-random_data.result.1 c.split-random_data.ensures.commitment c.split-random_data.ensures.committed
+
+-- where nothing is answered nothing is said of the answer
+pub returns-clause-refused : goal.returns-clause-refused
+returns-clause-refused g c = tt
+
+pub returns-in_err-found-clause-committed : goal.returns-in_err-found-clause-committed
+returns-in_err-found-clause-committed g c =
+    IfOk-from_err c.from_residual-in_err-found.result _ c.from_residual-in_err-found.ensures.0

@@ -7,6 +7,7 @@ use Rattle.p3_uni_stark_quotient.proofs.Honest.{cosets_off}
 use Rattle.p3_uni_stark_verifier.specs.Setting.{StarkFields}
 use Rattle.p3_uni_stark_prover.proofs.Fits.{given_same, fits_coset, rows_moved}
 use Rattle.p3_uni_stark_prover.proofs.commitments.quotient_of.Given.{Over}
+use Rattle.std.proofs.lemmas.Result.{IfOk-from_err}
 use Rattle.p3_uni_stark_prover.proofs.commitments.quotient_of.Goals as goal
 
 abbrev fields_of : (g : Over) → StarkFields g.row.F.Denot g.row.EF.Denot
@@ -63,3 +64,11 @@ returns-clause-quotient g c = record {
       c.args.prepared.now.periodic c.as_ref-2.ensures.value) c.args.prepared.now.coset.log_size c.requires.size
       c.args.prepared.now.coset.shift c.requires.shift;
 }
+
+-- where nothing is answered nothing is said of the answer
+pub returns-clause-refused : goal.returns-clause-refused
+returns-clause-refused g c = tt
+
+pub returns-in_err-chunks-clause-quotient : goal.returns-in_err-chunks-clause-quotient
+returns-in_err-chunks-clause-quotient g c =
+    IfOk-from_err c.from_residual-in_err-chunks.result _ c.from_residual-in_err-chunks.ensures.0

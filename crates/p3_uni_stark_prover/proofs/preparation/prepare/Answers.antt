@@ -8,6 +8,7 @@ use Rattle.p3_uni_stark_prover.proofs.Preparing.{needs_then, counted_then, withi
 use Rattle.p3_uni_stark_prover.proofs.Preparing.{trace_points, fewer_points, periodic_there}
 use Rattle.p3_uni_stark_prover.proofs.Refusals.{handed_on, generator_refused, periodic_refused}
 use Rattle.p3_uni_stark_prover.proofs.preparation.prepare.Given.{Over}
+use Rattle.std.proofs.lemmas.Result.{IfOk-from_err}
 use Rattle.p3_uni_stark_prover.proofs.preparation.prepare.Goals as goal
 
 abbrev fields_of : (g : Over) → StarkFields g.row.F.Denot g.row.EF.Denot
@@ -108,3 +109,23 @@ returns-clause-prepared g c =
         widths = c.in_ok-periodic.ensures.widths;
       },
     )
+
+-- where nothing is answered nothing is said of the answer
+pub returns-clause-refused : goal.returns-clause-refused
+returns-clause-refused g c = tt
+
+pub returns-in_err-coset-clause-height : goal.returns-in_err-coset-clause-height
+returns-in_err-coset-clause-height g c =
+    IfOk-from_err c.from_residual-in_err-coset.result _ c.from_residual-in_err-coset.ensures.0
+
+pub returns-in_err-coset-clause-prepared : goal.returns-in_err-coset-clause-prepared
+returns-in_err-coset-clause-prepared g c =
+    IfOk-from_err c.from_residual-in_err-coset.result _ c.from_residual-in_err-coset.ensures.0
+
+pub returns-in_err-periodic-clause-height : goal.returns-in_err-periodic-clause-height
+returns-in_err-periodic-clause-height g c =
+    IfOk-from_err c.from_residual-in_err-periodic.result _ c.from_residual-in_err-periodic.ensures.0
+
+pub returns-in_err-periodic-clause-prepared : goal.returns-in_err-periodic-clause-prepared
+returns-in_err-periodic-clause-prepared g c =
+    IfOk-from_err c.from_residual-in_err-periodic.result _ c.from_residual-in_err-periodic.ensures.0

@@ -1,6 +1,5 @@
 use Rattle.std.proofs.Common.{◌≡◌, ◌≤◌, ◌+◌, ◌^◌, ◌<◌, ℕ, length, subst, sym, ap, ◌∙◌, arith}
 use Rattle.std.proofs.Common.{inl, inr}
-use Rattle.std.specs.Int.{IsPowerOfTwo}
 use Rattle.std.specs.Prelude.{slice_index_or}
 use Rattle.std.proofs.lemmas.Nat.{one_shl}
 use Rattle.std.proofs.lemmas.Result.{IfOk-weaker, IfErr-weaker}
@@ -11,7 +10,6 @@ use Rattle.p3_field_core.specs.Basis.{unit_vector}
 use Rattle.p3_field_core.specs.declared.coset.TwoAdicMultiplicativeCoset.{
   TwoAdicMultiplicativeCoset,
 }
-use Rattle.p3_field_core.proofs.IndexPowers.{exponent_at_most}
 use Rattle.p3_matrix.specs.Matrix.{rows}
 use Rattle.p3_pcs.specs.Scheme.{still_kept}
 use Rattle.p3_stark_pcs.specs.Scheme.{still_kept_stark}
@@ -25,6 +23,7 @@ use Rattle.p3_uni_stark_prover.proofs.Kept.{rows_kept}
 use Rattle.p3_uni_stark_prover.proofs.Refusals.{handed_on}
 use Rattle.p3_uni_stark_prover.proofs.Whole.{openable, commitments_are, state_of, accepted_of}
 use Rattle.p3_uni_stark_prover.proofs.prover.prove.Given.{Over}
+use Rattle.std.proofs.lemmas.Result.{IfOk-from_err}
 use Rattle.p3_uni_stark_prover.proofs.prover.prove.Goals as goal
 
 abbrev fields_of : (g : Over) → StarkFields g.row.F.Denot g.row.EF.Denot
@@ -314,3 +313,16 @@ returns-clause-refused g c = λ k power.
           (g.P.Pcs.rules c.commit_columns.new.scheme) n c.in_ok-commitments.commitments
           c.commit_columns.new.challenger e) same h;
     }))) c.finish.ensures.refused
+
+-- where nothing is answered nothing is said of the answer
+pub returns-in_err-commitments-clause-height : goal.returns-in_err-commitments-clause-height
+returns-in_err-commitments-clause-height g c =
+    IfOk-from_err c.from_residual-in_err-commitments.result _ c.from_residual-in_err-commitments.ensures.0
+
+pub returns-in_err-commitments-clause-state : goal.returns-in_err-commitments-clause-state
+returns-in_err-commitments-clause-state g c =
+    IfOk-from_err c.from_residual-in_err-commitments.result _ c.from_residual-in_err-commitments.ensures.0
+
+pub returns-in_err-prepared-clause-height : goal.returns-in_err-prepared-clause-height
+returns-in_err-prepared-clause-height g c =
+    IfOk-from_err c.from_residual.result _ c.from_residual.ensures.0
