@@ -57,7 +57,3 @@ returns-in_err-witness-clause-round g c =
 pub returns-in_err-witness-clause-steps : goal.returns-in_err-witness-clause-steps
 returns-in_err-witness-clause-steps g c =
     IfOk-from_err c.from_residual.result _ c.from_residual.ensures.0
-
-pub returns-in_err-witness-clause-witness : goal.returns-in_err-witness-clause-witness
-returns-in_err-witness-clause-witness g c =
-    IfOk-from_err c.from_residual.result _ c.from_residual.ensures.0

@@ -105,11 +105,3 @@ returns-in_err-witness-clause-indices g c =
 pub returns-in_err-witness-clause-queries : goal.returns-in_err-witness-clause-queries
 returns-in_err-witness-clause-queries g c =
     IfOk-from_err c.from_residual.result _ c.from_residual.ensures.0
-
-pub returns-in_err-witness-clause-steps : goal.returns-in_err-witness-clause-steps
-returns-in_err-witness-clause-steps g c =
-    IfOk-from_err c.from_residual.result _ c.from_residual.ensures.0
-
-pub returns-in_err-witness-clause-witness : goal.returns-in_err-witness-clause-witness
-returns-in_err-witness-clause-witness g c =
-    IfOk-from_err c.from_residual.result _ c.from_residual.ensures.0

@@ -1,4 +1,4 @@
-use Rattle.std.proofs.Common.{◌+◌, ◌-◌, ◌<◌, ◌≤◌, length, Err, refl, sym, ap, ◌∙◌, arith, subst}
+use Rattle.std.proofs.Common.{◌+◌, ◌-◌, ◌<◌, ◌≤◌, length, refl, sym, ap, ◌∙◌, arith, subst}
 use Rattle.std.proofs.lemmas.Result.{IfOk-from_err}
 use Rattle.std.proofs.lemmas.List.{length_push}
 use Rattle.std.specs.Prelude.{IsTrue}
@@ -6,7 +6,6 @@ use Rattle.p3_challenger_core.specs.Run.{Moves, moves}
 use Rattle.p3_challenger_fs.specs.Script.{remaining}
 use Rattle.p3_fri_pow.proofs.Reached.{reaches_itself, reaches_join}
 use Rattle.p3_fri_transcript.specs.declared.transcript.failure.TranscriptFailure.{TranscriptFailure}
-use Rattle.p3_fri_transcript.specs.declared.transcript.failure.TranscriptFailure.TheVariants as Why
 use Rattle.p3_fri_transcript.specs.Failures.{RoundsFailure}
 use Rattle.p3_fri_transcript.specs.Replay.{RoundsReplay, round_replay, rounds_replay}
 use Rattle.p3_fri_transcript.specs.Shapes.{fri_shape}
@@ -217,30 +216,6 @@ returns-in-Err-clause-wrong_witnesses g c = λ same other.
 pub returns-in-Err-clause-wrong_commitments : goal.returns-in-Err-clause-wrong_commitments
 unfolding fri_shape
 returns-in-Err-clause-wrong_commitments g c = λ other.
-    absurd (other (c.if-commitments-expected.false ∙ c.len-expected.ensures
-    ∙ c.args.self.now.shape.log_arities.ok.0))
-
-pub returns-then-commitments-expected-clause-wrong_commitments : goal.returns-then-commitments-expected-clause-wrong_commitments
-unfolding fri_shape
-returns-then-commitments-expected-clause-wrong_commitments g c = λ other.
-    ap (λ n. Err (Why.CommitRoundCount n (length c.args.commitments.now)))
-    (c.len-expected.ensures ∙ c.args.self.now.shape.log_arities.ok.0)
-
-pub returns-then-commitments-expected-clause-wrong_witnesses : goal.returns-then-commitments-expected-clause-wrong_witnesses
-unfolding fri_shape
-returns-then-commitments-expected-clause-wrong_witnesses g c = λ same other.
-    absurd (c.if-commitments-expected.true (same ∙ sym (c.len-expected.ensures
-    ∙ c.args.self.now.shape.log_arities.ok.0)))
-
-pub returns-then-witnesses-expected-clause-wrong_witnesses : goal.returns-then-witnesses-expected-clause-wrong_witnesses
-unfolding fri_shape
-returns-then-witnesses-expected-clause-wrong_witnesses g c = λ same other.
-    ap (λ n. Err (Why.CommitPowWitnessCount n (length c.args.witnesses.now)))
-    (c.len-expected.ensures ∙ c.args.self.now.shape.log_arities.ok.0)
-
-pub returns-then-witnesses-expected-clause-wrong_commitments : goal.returns-then-witnesses-expected-clause-wrong_commitments
-unfolding fri_shape
-returns-then-witnesses-expected-clause-wrong_commitments g c = λ other.
     absurd (other (c.if-commitments-expected.false ∙ c.len-expected.ensures
     ∙ c.args.self.now.shape.log_arities.ok.0))
 

@@ -142,7 +142,3 @@ returns-in_err-indices-clause-indices g c =
 pub returns-in_err-indices-clause-queries : goal.returns-in_err-indices-clause-queries
 returns-in_err-indices-clause-queries g c =
     IfOk-from_err c.from_residual.result _ c.from_residual.ensures.0
-
-pub returns-in_err-indices-clause-steps : goal.returns-in_err-indices-clause-steps
-returns-in_err-indices-clause-steps g c =
-    IfOk-from_err c.from_residual.result _ c.from_residual.ensures.0
