@@ -1,8 +1,10 @@
 //! Times the fold of a word, by lanes and one row after the other.
 
-use crate::matrices::{rows_of, word_of};
+ghost use Rattle.std.specs.Prelude.{◌<◌};
+
+use crate::matrices::rows_of;
 use crate::watch::{Fault, Result, Run, Watch, now};
-use p3_field::{BabyBear, BabyBear4, Field};
+use p3_field::{BabyBear, BabyBear4, Field, shifted_powers};
 use p3_fri_folding::{FoldTable, FriFoldingStrategy, TwoAdicFriFolding};
 use p3_mmcs::Sha256MmcsError;
 use std::alloc::Global;
@@ -33,12 +35,15 @@ fn folded(
     let table = FoldTable::<BabyBear, BabyBear4>::new(alloc, log_height, log_arity, beta)?;
     let mut folds = Vec::with_capacity(alloc, matrix.height())?;
     for i in 0..matrix.height() {
-        folds.push(table.fold_row(i, matrix.row(i)))?;
+        if folds.push(table.fold_row(i, matrix.row(i))).is_err() {
+            return Err(Fault::Memory);
+        }
     }
     Ok(folds)
 }
 
-/// A new word folded so many times by `2^log_arity`, whose time the watch sees.
+/// A new word of `2^log_size` elements folded so many times by `2^log_arity`, whose time the watch
+/// sees.
 fn fold_new(
     rt: &HostRuntime,
     watch: &mut Watch,
@@ -46,8 +51,11 @@ fn fold_new(
     log_arity: usize,
     rounds: usize,
     by_lanes: bool,
-) -> Result<Vec<BabyBear4>> {
-    let (mut word, mut beta) = (word_of(rt.alloc(), log_size)?, BabyBear4::GENERATOR);
+) -> Result<Vec<BabyBear4>>
+    requires { log_size < 28 }
+{
+    let base = BabyBear4::GENERATOR;
+    let (mut word, mut beta) = (shifted_powers(rt.alloc(), base, base, 1 << log_size)?, base);
     let start = now(rt);
     for _ in 0..rounds {
         word = folded(rt.alloc(), word, log_arity, beta, by_lanes)?;
@@ -64,8 +72,7 @@ pub fn print(rt: &HostRuntime, ([log_size], repeats): Run<1>) -> Result<()> {
         return Err(Fault::Sizes);
     }
     for log_arity in 1..4 {
-        let (mut once, mut rows, mut twos) = (Watch::new(), Watch::new(), Watch::new());
-        let mut same = true;
+        let ([mut once, mut rows, mut twos], mut same) = ([Watch::UNSEEN; 3], true);
         // One before and one after the other ways, so that none alone finds fresh memory.
         for _ in 0..repeats {
             let at_once = fold_new(rt, &mut once, log_size, log_arity, 1, true)?;

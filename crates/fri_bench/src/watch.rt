@@ -1,6 +1,6 @@
 //! What a mode is run with, the least of several times, and why nothing was timed.
 
-use std::alloc::{AllocError, AllocFailed};
+use std::alloc::AllocError;
 use std::time::{Duration, Instant};
 use std::{fmt, io};
 
@@ -11,7 +11,7 @@ pub type Run<const N: usize> = ([usize; N], usize);
 pub type Result<T> = std::result::Result<T, Fault>;
 
 /// Why nothing was timed.
-#[derive(Clone, Copy, Debug)]
+#[derive(Debug, Drop)]
 pub enum Fault {
     /// The arguments name no run.
     Usage,
@@ -26,25 +26,8 @@ pub enum Fault {
     Output,
 }
 
-impl Fault {
-    /// The program's status.
-    pub fn status(self) -> u8 {
-        match self {
-            Fault::Usage | Fault::Sizes | Fault::Refused => 2,
-            Fault::Memory => 3,
-            Fault::Output => 4,
-        }
-    }
-}
-
 impl From<AllocError> for Fault {
     fn from(_error: AllocError) -> Self {
-        Fault::Memory
-    }
-}
-
-impl<T: Drop> From<AllocFailed<T>> for Fault {
-    fn from(_error: AllocFailed<T>) -> Self {
         Fault::Memory
     }
 }
@@ -65,9 +48,8 @@ pub fn now(rt: &HostRuntime) -> Option<Instant> {
 pub struct Watch(Option<Duration>);
 
 impl Watch {
-    pub fn new() -> Self {
-        Watch(None)
-    }
+    /// It saw no time yet.
+    pub const UNSEEN: Watch = Watch(None);
 
     /// Sees the time since then.
     pub fn see(&mut self, rt: &HostRuntime, start: Option<Instant>) {
