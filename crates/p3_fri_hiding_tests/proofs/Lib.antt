@@ -1,6 +1,5 @@
 mod Each
 mod Fitting
-mod Fresh
 mod LargerDomains
 mod Maskable
 mod TwoRequests

@@ -3,4 +3,5 @@ pub mod Commits
 pub mod FitLaws
 pub mod Fits
 pub mod OfSetting
+pub mod OpenLaws
 pub mod Openable

@@ -1,7 +1,5 @@
 //! What tests ask of the hiding scheme, by one function: what names a scheme takes long to prove.
 
-use crate::committable::column;
-use crate::matrices::SHORT_PI_COLUMN;
 use crate::openings::both::are_both_accepted;
 use crate::openings::cases::{Asked, are_met};
 use crate::openings::headline::is_column_accepted;
@@ -9,7 +7,7 @@ use crate::openings::requests::Batches;
 use crate::openings::stark::is_stark_served;
 use crate::openings::unsolved::{commit_and_open, is_named};
 use crate::scheme::{SMALL, Setting};
-use crate::schemes::{PlainScheme, Scheme, plain_scheme_of, scheme_of};
+use crate::schemes::{Scheme, plain_scheme_of};
 use crate::tested::Tested;
 use crate::turns::{Turn, are_met_in_turn};
 use p3_fri_folding::PowPhase;
@@ -17,12 +15,11 @@ use std::alloc::Global;
 use std::process::Abort;
 
 /// What is asked of a scheme.
-#[derive(Clone, Copy)]
-pub(crate) enum Question<'a> {
+pub(crate) enum Question {
     /// Whether what a new scheme of that setting or its forks commit to in turn is as it is wanted.
-    InTurn(Setting, &'a [Turn<'a>]),
+    InTurn(Setting, &'static [Turn]),
     /// Whether openings are.
-    Openings(&'a Batches, &'a [Asked]),
+    Openings(&'static Batches, &'static [Asked]),
     /// Whether a column is accepted.
     IsColumnAccepted,
     /// Whether preprocessing beside a private column is.
@@ -36,10 +33,10 @@ pub(crate) enum Question<'a> {
 }
 
 /// What a scheme answers.
-fn answer_of<P: Tested>(rt: &impl Abort, alloc: Global, question: Question<'_>) -> bool {
+fn answer_of<P: Tested>(rt: &impl Abort, alloc: Global, question: &Question) -> bool {
     match question {
-        Question::InTurn(setting, turns) => are_met_in_turn::<P>(rt, alloc, setting, turns),
-        Question::Openings(batches, openings) => are_met::<P>(rt, alloc, batches, openings),
+        Question::InTurn(setting, turns) => are_met_in_turn::<P>(rt, alloc, *setting, *turns),
+        Question::Openings(batches, openings) => are_met::<P>(rt, alloc, *batches, *openings),
         Question::IsColumnAccepted => is_column_accepted::<P>(rt, alloc),
         Question::AreBothAccepted => are_both_accepted::<P>(rt, alloc),
         Question::IsStarkServed => is_stark_served::<P>(rt, alloc),
@@ -49,24 +46,24 @@ fn answer_of<P: Tested>(rt: &impl Abort, alloc: Global, question: Question<'_>) 
 }
 
 /// What the hiding scheme answers, or both schemes.
-pub(crate) fn ask(rt: &impl Abort, alloc: Global, question: Question<'_>) -> bool {
+fn ask(rt: &impl Abort, alloc: Global, question: &Question) -> bool {
     match question {
         Question::IsWorkNamed(work) => {
-            let setting = Setting { work, ..SMALL };
-            let masked = column(rt, alloc, &SHORT_PI_COLUMN, 2);
-            let (hiding, held) = commit_and_open::<Scheme>(rt, scheme_of(setting), alloc, masked);
-            let bare = column(rt, alloc, &SHORT_PI_COLUMN, 1);
-            let plain_scheme = plain_scheme_of(setting);
-            let (plain, _held) = commit_and_open::<PlainScheme>(rt, plain_scheme, alloc, bare);
-            held.is_opened() && is_named(work, hiding, plain)
+            let setting = Setting {
+                work: *work,
+                ..SMALL
+            };
+            let (hiding, held) = commit_and_open(rt, Scheme::of(setting), alloc, 2);
+            let (plain, _held) = commit_and_open(rt, plain_scheme_of(setting), alloc, 1);
+            held.is_opened() && is_named(*work, hiding, plain)
         }
         _ => answer_of::<Scheme>(rt, alloc, question),
     }
 }
 
 /// Whether it answers each of these questions by yes: the first that it doesn't is named.
-pub(crate) fn hold(rt: &impl Abort, alloc: Global, questions: &[Question<'_>]) {
+pub(crate) fn hold(rt: &impl Abort, alloc: Global, questions: &[Question]) {
     for index in 0..questions.len() {
-        assert!(rt; ask(rt, alloc, questions[index]), "case {index}");
+        assert!(rt; ask(rt, alloc, &questions[index]), "case {index}");
     }
 }

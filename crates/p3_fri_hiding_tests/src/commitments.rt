@@ -1,28 +1,28 @@
 //! Whatever a scheme commits to.
 
-use crate::committable::{chunks, domains_of, words};
+use crate::committable::{chunks, words};
 use crate::kind::Kind;
 use crate::lists::two;
-use crate::matrices::{Entries, coset, evaluations};
-use crate::scheme::{Domain, Setting};
+use crate::matrices::{Entries, cosets, evaluations};
+use crate::scheme::{Data, Setting};
 use crate::tested::Tested;
 use p3_fri_masks::HidingFriProverError;
 use std::alloc::Global;
 use std::process::Abort;
 
 /// A commitment and its data, or why there is none.
-type Commitment<Data> = Result<([u8; 32], Data), HidingFriProverError>;
+type Commitment = Result<([u8; 32], Data), HidingFriProverError>;
 
-/// Commits so to the matrices of these entries, by a scheme of that setting: those of a trace, and
-/// those on whose domains random polynomials are, stand beside domains of twice as many points.
+/// Commits so to the matrices of these entries, by a scheme of that setting: those of a trace stand
+/// beside domains of twice as many points.
 pub(crate) fn commit_to<P: Tested>(
     rt: &impl Abort,
     scheme: &mut P,
     alloc: Global,
     setting: Setting,
-    kind: Kind,
+    kind: &Kind,
     each: &[Entries],
-) -> Commitment<P::ProverData>
+) -> Commitment
     requires { P.IsOf setting scheme.old }
     ensures { P.Keeps scheme.old scheme.new }
 {
@@ -43,30 +43,19 @@ pub(crate) fn commit_to<P: Tested>(
             let (first, second) = chunks(rt, alloc, each);
             let chunks = two(rt, alloc, first, second);
             match scheme.get_quotient_ldes(alloc, chunks, 2) {
-                Ok(words) => match scheme.commit_ldes(alloc, words) {
-                    Ok(committed) => Ok(committed),
-                    Err(_) => panic!(rt; "the words are refused"),
-                },
+                Ok(words) => {
+                    let committed = scheme.commit_ldes(alloc, words);
+                    Ok(committed.expect(rt, "the words are refused"))
+                }
                 Err(refusal) => Err(refusal),
             }
         },
-        Kind::Random => {
-            let columns = evaluations(rt, alloc, each, 2);
-            let domains = domains_of(rt, alloc, &columns);
+        Kind::Random(each) => {
+            let domains = cosets(rt, alloc, *each);
             match scheme.get_opt_randomization_poly_commitment(alloc, domains) {
-                Ok(Some(committed)) => Ok(committed),
-                Ok(None) => panic!(rt; "the scheme doesn't hide"),
+                Ok(committed) => Ok(committed.expect(rt, "the scheme doesn't hide")),
                 Err(refusal) => Err(refusal),
             }
         }
     }
-}
-
-/// Domains by their shifts and the logarithms of their sizes.
-pub(crate) fn cosets(rt: &impl Abort, alloc: Global, each: &[(u64, usize)]) -> Vec<Domain> {
-    let mut domains = Vec::new(alloc);
-    for one in each {
-        domains.push(coset(rt, one.0, one.1)).expect(rt, "memory");
-    }
-    domains
 }

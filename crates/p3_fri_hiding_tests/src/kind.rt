@@ -1,7 +1,6 @@
 //! How matrices are committed to.
 
 /// How matrices, each beside a domain, are committed to by one call.
-#[derive(Clone, Copy)]
 pub(crate) enum Kind {
     Private,
     Preprocessed,
@@ -9,6 +8,6 @@ pub(crate) enum Kind {
     Ldes,
     /// As the words that the scheme extends these chunks of a quotient to.
     Chunks,
-    /// As random polynomials on the domains.
-    Random,
+    /// Not they, but random polynomials on the domains of these shifts and log sizes.
+    Random(&'static [(u64, usize)]),
 }

@@ -1,6 +1,6 @@
-//! Lists of few values.
+//! Lists of values.
 
-ghost use Rattle.std.specs.Prelude.{◌≡◌, [], ◌∷◌};
+ghost use Rattle.std.specs.Prelude.{◌≡◌, [], ◌∷◌, ◌++◌};
 
 use p3_test_openings::listed::{listed, pair};
 use std::alloc::Global;
@@ -18,4 +18,11 @@ pub(crate) fn two<T: Drop>(rt: &impl Abort, alloc: Global, first: T, second: T) 
     ensures { result.items ≡ first ∷ second ∷ [] }
 {
     pair(alloc, first, second).expect(rt, "memory")
+}
+
+/// Adds a value to a list.
+pub(crate) fn push<T: Drop>(rt: &impl Abort, list: &mut Vec<T>, value: T)
+    ensures { list.new.items ≡ list.old.items ++ value ∷ [] }
+{
+    list.push(value).expect(rt, "memory");
 }

@@ -8,7 +8,6 @@ use crate::kind::Kind;
 use crate::matrices::{E, Entries, PI};
 use crate::scheme::SMALL;
 use crate::turns::Turn;
-use p3_field::{BabyBear, Field};
 use readings::{Masked, Masks};
 
 /// 16 rows and 32 rows.
@@ -47,7 +46,7 @@ const MASKED_E: Masked = Masked {
 };
 
 /// The masks of a scheme's commitments are the words of its generator in turn.
-const WORDS: Turn<'static> = Turn {
+const WORDS: Turn = Turn {
     kind: Kind::Private,
     each: &TRACES,
     is_by_fork: false,
@@ -56,7 +55,7 @@ const WORDS: Turn<'static> = Turn {
     masks: Masks::Words,
 };
 
-const TWICE: [Turn<'static>; 2] = [WORDS, WORDS];
+const TWICE: [Turn; 2] = [WORDS, WORDS];
 
 /// Matrices of which the second is too low for the budget.
 const TOO_LOW: [Entries; 2] = [
@@ -73,7 +72,7 @@ const TOO_LOW: [Entries; 2] = [
 ];
 
 /// A refusal takes none of the words.
-const AFTER_A_REFUSAL: [Turn<'static>; 3] = [
+const AFTER_A_REFUSAL: [Turn; 3] = [
     Turn {
         each: &TOO_LOW,
         refusal: Some(LOW),
@@ -84,7 +83,7 @@ const AFTER_A_REFUSAL: [Turn<'static>; 3] = [
 ];
 
 /// All columns of preprocessed matrices are shown, with zeros between their rows.
-const PREPROCESSED: [Turn<'static>; 1] = [Turn {
+const PREPROCESSED: [Turn; 1] = [Turn {
     kind: Kind::Preprocessed,
     wanted: &[
         Masked {
@@ -111,8 +110,9 @@ const RANDOM_COLUMNS: Masked = Masked {
     shown: 4,
 };
 
-const RANDOM: [Turn<'static>; 1] = [Turn {
-    kind: Kind::Random,
+const RANDOM: [Turn; 1] = [Turn {
+    kind: Kind::Random(&[(1, 5), (5, 6)]),
+    each: &[],
     wanted: &[
         RANDOM_COLUMNS,
         Masked {
@@ -125,7 +125,7 @@ const RANDOM: [Turn<'static>; 1] = [Turn {
 }];
 
 /// What is committed to by forks.
-const FORKED: Turn<'static> = Turn {
+const FORKED: Turn = Turn {
     is_by_fork: true,
     each: &[Entries {
         shift: 5,
@@ -145,7 +145,7 @@ const FIRST_ROWS: Masked = Masked {
 
 /// Its first two rows with masks, by the generator of a scheme's first fork, by that of its second
 /// and by that of the scheme, which was forked twice then.
-const FORKS: [Turn<'static>; 3] = [
+const FORKS: [Turn; 3] = [
     Turn {
         wanted: &[Masked {
             numbers: &[
@@ -222,13 +222,22 @@ const SECOND_AT_FIVE: [u64; 6] = [
     1_768_662_780,
 ];
 
-/// What these are multiplied by where they are recombined, and the recombined quotient at 5 of each
-/// column of the chunks as they were handed in.
-static FACTORS_AT_FIVE: [u64; 2] = [198_688_671, 1_814_577_251];
+/// What these are multiplied by where they are recombined.
+const FACTORS_AT_FIVE: [u64; 2] = [198_688_671, 1_814_577_251];
 
-static QUOTIENT_AT_FIVE: [u64; 2] = [699_564_735, 1_070_878_612];
+/// The recombined quotient at 5 of each column of the chunks as they were handed in.
+const QUOTIENT_AT_FIVE: [u64; 2] = [699_564_735, 1_070_878_612];
 
-static CHUNKS_AT_FIVE: [[u64; 6]; 2] = [FIRST_AT_FIVE, SECOND_AT_FIVE];
+/// The columns that are shown recombine to it.
+const _: () = prove!(
+    (FACTORS_AT_FIVE[0] * FIRST_AT_FIVE[0] + FACTORS_AT_FIVE[1] * SECOND_AT_FIVE[0]) % 2_013_265_921
+        == QUOTIENT_AT_FIVE[0]
+);
+
+const _: () = prove!(
+    (FACTORS_AT_FIVE[0] * FIRST_AT_FIVE[1] + FACTORS_AT_FIVE[1] * SECOND_AT_FIVE[1]) % 2_013_265_921
+        == QUOTIENT_AT_FIVE[1]
+);
 
 const CHUNK_AT_FIVE: Masked = Masked {
     domain: (5, 0),
@@ -241,7 +250,7 @@ const CHUNK_AT_FIVE: Masked = Masked {
 };
 
 /// Two chunks of 16 rows, on the halves of the coset of 31 of 32 points, read at 5.
-const CHUNKS: [Turn<'static>; 1] = [Turn {
+const CHUNKS: [Turn; 1] = [Turn {
     kind: Kind::Chunks,
     each: &[
         Entries {
@@ -267,7 +276,7 @@ const CHUNKS: [Turn<'static>; 1] = [Turn {
 }];
 
 /// What is asked of committed matrices.
-static QUESTIONS: [Question<'static>; 6] = [
+static QUESTIONS: [Question; 6] = [
     Question::InTurn(SMALL, &TWICE),
     Question::InTurn(SMALL, &AFTER_A_REFUSAL),
     Question::InTurn(SMALL, &PREPROCESSED),
@@ -279,13 +288,4 @@ static QUESTIONS: [Question<'static>; 6] = [
 #[test]
 fn committed_matrices_are_read(rt: HostRuntime) {
     hold(&rt, rt.alloc(), &QUESTIONS);
-    // so are chunks, and their columns that are shown recombine to the quotient
-    for column in 0..2 {
-        let of_first = BabyBear::from_u64(CHUNKS_AT_FIVE[0][column]);
-        let of_second = BabyBear::from_u64(CHUNKS_AT_FIVE[1][column]);
-        let recombined = BabyBear::from_u64(FACTORS_AT_FIVE[0]) * of_first
-            + BabyBear::from_u64(FACTORS_AT_FIVE[1]) * of_second;
-        let wanted = BabyBear::from_u64(QUOTIENT_AT_FIVE[column]);
-        assert!(rt; recombined == wanted, "not the quotient");
-    }
 }

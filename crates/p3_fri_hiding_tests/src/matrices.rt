@@ -1,8 +1,9 @@
 //! Matrices of small numbers, the domains beside them, and points.
 
-ghost use Rattle.std.specs.Prelude.{◌≡◌, All};
+ghost use Rattle.std.specs.Prelude.{◌≡◌, ◌≤◌, All};
 ghost use Rattle.p3_fri_hiding_tests.specs.Fits.{Fits};
 
+use crate::lists::push;
 use crate::scheme::{Domain, Evaluation};
 use p3_field::{BabyBear, BabyBear4, ExtensionField, Field, TwoAdicMultiplicativeCoset};
 use p3_matrix::RowMajorMatrix;
@@ -10,7 +11,6 @@ use std::alloc::Global;
 use std::process::Abort;
 
 /// Rows of this width of the numbers, on the coset of this shift.
-#[derive(Clone, Copy)]
 pub(crate) struct Entries {
     pub shift: u64,
     pub width: usize,
@@ -36,20 +36,45 @@ pub(crate) const LATE_E: [u64; 16] = [2, 3, 5, 3, 6, 0, 2, 8, 7, 4, 7, 1, 3, 5, 
 /// The first 16 of them.
 pub(crate) const SHORT_E: [u64; 16] = [2, 7, 1, 8, 2, 8, 1, 8, 2, 8, 4, 5, 9, 0, 4, 5];
 
-/// What functions read of them, since a constant is written out in each.
-pub(crate) static PI_COLUMN: [u64; 32] = PI;
+/// Columns of them that functions read, since a constant is written out in each.
+pub(crate) static SHORT_PI_COLUMN: Entries = Entries {
+    shift: 1,
+    width: 1,
+    numbers: &SHORT_PI,
+};
 
-pub(crate) static SHORT_PI_COLUMN: [u64; 16] = SHORT_PI;
+pub(crate) static E_COLUMN: Entries = Entries {
+    shift: 1,
+    width: 1,
+    numbers: &E,
+};
 
-pub(crate) static E_COLUMN: [u64; 32] = E;
+pub(crate) static LATE_E_COLUMN: Entries = Entries {
+    shift: 1,
+    width: 1,
+    numbers: &LATE_E,
+};
 
-pub(crate) static LATE_E_COLUMN: [u64; 16] = LATE_E;
-
-/// The coset of this shift and of `2^log_size` points.
+/// The coset of this shift and of `2^log_size` points, which are few.
 pub(crate) fn coset(rt: &impl Abort, shift: u64, log_size: usize) -> Domain
-    ensures { result.log_size ≡ log_size }
+    ensures size { result.log_size ≡ log_size }
+    ensures few { result.log_size ≤ 8 }
 {
+    if log_size > 8 {
+        rt.panic("too large a domain");
+    }
     TwoAdicMultiplicativeCoset::new(BabyBear::from_u64(shift), log_size).expect(rt, "not a domain")
+}
+
+/// Such cosets by their shifts and the logarithms of their sizes.
+pub(crate) fn cosets(rt: &impl Abort, alloc: Global, each: &[(u64, usize)]) -> Vec<Domain>
+    ensures { All (λ d. d.log_size ≤ 8) result.items }
+{
+    let mut domains = Vec::new(alloc);
+    for one in each {
+        push(rt, &mut domains, coset(rt, one.0, one.1));
+    }
+    domains
 }
 
 /// The matrix of these entries, beside the coset of so many times as many points as it has rows.
@@ -63,24 +88,21 @@ pub(crate) fn evaluation(
 {
     let mut values = Vec::new(alloc);
     for number in entries.numbers {
-        values
-            .push(BabyBear::from_u64(*number))
-            .expect(rt, "memory");
+        push(rt, &mut values, BabyBear::from_u64(*number));
     }
-    assert!(rt;
-        entries.width != 0 && values.len() % entries.width == 0,
-        "the numbers aren't whole rows"
-    );
+    if entries.width == 0 || values.len() % entries.width != 0 {
+        rt.panic("the numbers aren't whole rows");
+    }
     let matrix = RowMajorMatrix::new(values, entries.width);
     let height = matrix.height();
     if height > 256 || factor > 2 {
-        panic!(rt; "too high a matrix");
+        rt.panic("too high a matrix");
     }
     let num_points = factor * height;
     let log_size = num_points.trailing_zeros() as usize;
     let domain = coset(rt, entries.shift, log_size);
-    if log_size < 2 || log_size > 8 || domain.size() != num_points {
-        panic!(rt; "not on its domain");
+    if log_size < 2 || domain.size() != num_points {
+        rt.panic("not on its domain");
     }
     (domain, matrix)
 }
@@ -96,8 +118,7 @@ pub(crate) fn evaluations(
 {
     let mut all = Vec::new(alloc);
     for entries in each {
-        all.push(evaluation(rt, alloc, entries, factor))
-            .expect(rt, "memory");
+        push(rt, &mut all, evaluation(rt, alloc, entries, factor));
     }
     all
 }

@@ -2,37 +2,17 @@
 
 ghost use Rattle.std.specs.Prelude.{◌≡◌, ◌<◌, ◌≤◌, All, IsTrue, false, length, slice_index_or};
 ghost use Rattle.p3_matrix.specs.Matrix.{matrix_width};
-ghost use Rattle.p3_fri_openings.specs.Rounds.{HasCoset};
 ghost use Rattle.p3_fri_hiding_openings.specs.Data.{hidden_columns};
-ghost use Rattle.p3_fri_hiding_tests.specs.Openable.{IsHeld, IsFresh};
+ghost use Rattle.p3_fri_hiding_tests.specs.Openable.{IsHeld, IsFresh, AreFresh};
 
 use p3_field::{BabyBear, BabyBear4, Field, TwoAdicMultiplicativeCoset};
 use p3_fri_hiding::HidingFriPcsProverData;
 use p3_fri_hiding_openings::{committed_matrices, hidden_columns};
-use p3_matrix::RowMajorMatrix;
 use p3_mmcs::Mmcs;
 use p3_pcs::OpeningRequest;
 
-/// Whether each matrix is as high as a coset is large, and has so many columns.
-fn are_fit(matrices: &[RowMajorMatrix<BabyBear>], width: usize) -> bool
-    ensures cosets { IsTrue result → All (HasCoset 27) matrices.now }
-    ensures wide { IsTrue result → All (λ m. width ≤ matrix_width m) matrices.now }
-{
-    for matrix in matrices {
-        let height = matrix.height();
-        let log_height = height.trailing_zeros() as usize;
-        let Some(coset) = TwoAdicMultiplicativeCoset::new(BabyBear::ONE, log_height) else {
-            return false;
-        };
-        if coset.size() != height || matrix.width() < width {
-            return false;
-        }
-    }
-    true
-}
-
-/// Whether the data is of so many random codewords and a blowup of 4, and its matrices have the
-/// columns that hide the others.
+/// Whether the data is of so many random codewords and a blowup of 4, and each of its matrices is as
+/// high as a coset is large, and has the columns that hide the others.
 fn is_held<M: Mmcs<BabyBear>>(
     mmcs: &M,
     held: &HidingFriPcsProverData<M::ProverData>,
@@ -45,14 +25,23 @@ fn is_held<M: Mmcs<BabyBear>>(
     if held.num_random_codewords() != codewords || held.log_blowup() != 2 {
         return false;
     }
-    are_fit(
-        committed_matrices(mmcs, held),
-        hidden_columns(held, codewords),
-    )
+    let matrices = committed_matrices(mmcs, held);
+    let hidden = hidden_columns(held, codewords);
+    for matrix in matrices {
+        let height = matrix.height();
+        let log_height = height.trailing_zeros() as usize;
+        let Some(coset) = TwoAdicMultiplicativeCoset::new(BabyBear::ONE, log_height) else {
+            return false;
+        };
+        if coset.size() != height || matrix.width() < hidden {
+            return false;
+        }
+    }
+    true
 }
 
 /// Whether the request is for all matrices of such data, which is preprocessing or may be opened.
-pub(crate) fn is_openable<M: Mmcs<BabyBear>>(
+fn is_openable<M: Mmcs<BabyBear>>(
     mmcs: &M,
     request: &OpeningRequest<'_, HidingFriPcsProverData<M::ProverData>, BabyBear4>,
     codewords: usize,
@@ -75,7 +64,7 @@ pub(crate) fn is_openable<M: Mmcs<BabyBear>>(
 }
 
 /// Whether that holds of each request, for private data.
-pub(crate) fn are_private<M: Mmcs<BabyBear>>(
+fn are_private<M: Mmcs<BabyBear>>(
     mmcs: &M,
     requests: &[OpeningRequest<'_, HidingFriPcsProverData<M::ProverData>, BabyBear4>],
     codewords: usize,
@@ -91,6 +80,26 @@ pub(crate) fn are_private<M: Mmcs<BabyBear>>(
         }
     }
     true
+}
+
+/// Whether the requests may be opened by a scheme of so many random codewords, where the first is
+/// one of preprocessing or not.
+pub(crate) fn are_openable<M: Mmcs<BabyBear>>(
+    mmcs: &M,
+    requests: &[OpeningRequest<'_, HidingFriPcsProverData<M::ProverData>, BabyBear4>],
+    codewords: usize,
+    is_first_preprocessed: bool,
+) -> bool
+    ensures { IsTrue result
+        → AreFresh codewords is_first_preprocessed M.committed requests.now }
+{
+    match requests.split_first() {
+        Some((first, others)) => {
+            is_openable(mmcs, first, codewords, is_first_preprocessed)
+                && are_private(mmcs, others, codewords)
+        }
+        None => false,
+    }
 }
 
 /// Whether the data is such, and has a matrix of this index with a column beside those that hide

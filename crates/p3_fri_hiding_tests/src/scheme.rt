@@ -7,6 +7,7 @@ ghost use Rattle.p3_fri_two_adic.specs.Ranges.{InProverRange, InVerifierRange};
 
 use p3_field::{BabyBear, BabyBear4, TwoAdicMultiplicativeCoset};
 use p3_fri_folding::{FriParameters, PowPhase};
+use p3_fri_hiding::HidingFriPcsProverData;
 use p3_fri_relation::error::FriError;
 use p3_fri_relation::proof::{BatchMultiOpening, FriProof};
 use p3_matrix::RowMajorMatrix;
@@ -19,6 +20,9 @@ pub(crate) type Inputs = Sha256Mmcs<BabyBear>;
 pub(crate) type Rounds = Sha256Mmcs<BabyBear4>;
 
 pub(crate) type Domain = TwoAdicMultiplicativeCoset<BabyBear>;
+
+/// What the committing side keeps.
+pub(crate) type Data = HidingFriPcsProverData<<Inputs as Mmcs<BabyBear>>::ProverData>;
 
 /// A matrix beside a domain.
 pub(crate) type Evaluation = (Domain, RowMajorMatrix<BabyBear>);

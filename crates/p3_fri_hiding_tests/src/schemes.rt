@@ -8,52 +8,28 @@ ghost use Rattle.p3_fri_two_adic.specs.Ldes.{HasLdeHeight};
 ghost use Rattle.p3_fri_hiding.specs.Quotients.{CanExtend};
 ghost use Rattle.p3_fri_hiding_tests.specs.FitLaws.{domains, masked};
 ghost use Rattle.p3_fri_hiding_tests.specs.OfSetting.{IsOfSetting, kept};
+ghost use Rattle.p3_fri_hiding_tests.specs.OpenLaws.{all_private, first_preprocessed, shown};
+ghost use Rattle.p3_fri_hiding_tests.specs.OpenLaws.{whole};
 
-use crate::openable::{are_private, is_openable, is_readable};
-use crate::openings::changes::{Change, change_random};
-use crate::openings::shapes::{Counts, are_opened_so};
 use crate::scheme::{Inputs, Proof, Rounds, Setting, generator, parameters};
-use crate::tested::{DataState, Tested};
+use crate::tested::Tested;
 use p3_dft::Radix2Dit;
 use p3_field::{BabyBear, BabyBear4, Field};
-use p3_fri_hiding::{HidingFriPcs, HidingFriPcsProverData};
+use p3_fri_hiding::HidingFriPcs;
 use p3_fri_two_adic::TwoAdicFriPcs;
-use p3_mmcs::{Mmcs, Sha256Mmcs};
-use p3_pcs::OpeningRequest;
+use p3_mmcs::{OpenedValues, Sha256Mmcs};
 use rand_chacha::ChaCha20Rng;
 use std::alloc::AllocError;
 
-pub(crate) type Data = HidingFriPcsProverData<<Inputs as Mmcs<BabyBear>>::ProverData>;
-
 pub(crate) type Scheme = HidingFriPcs<BabyBear, Radix2Dit<BabyBear>, Inputs, Rounds, ChaCha20Rng>;
 
-pub(crate) type PlainScheme = TwoAdicFriPcs<BabyBear, Radix2Dit<BabyBear>, Inputs, Rounds>;
-
-/// The hiding scheme of that setting.
-pub(crate) fn scheme_of(setting: Setting) -> Scheme
-    ensures log_blowup { result.fri.log_blowup ≡ 2 }
-    ensures codewords { result.num_random_codewords ≡ setting.num_random_codewords }
-    ensures prover_range { 0 < setting.num_queries
-        → InProverRange (parameters_of result.fri) 27 63 }
-    ensures verifier_range { setting.log_final_poly_len ≤ 31
-        → InVerifierRange (parameters_of result.fri) 27 63 }
-{
-    HidingFriPcs::new(
-        Radix2Dit::default(),
-        Sha256Mmcs::new(),
-        parameters(setting),
-        setting.num_random_codewords,
-        generator(),
-    )
-}
+type PlainScheme = TwoAdicFriPcs<BabyBear, Radix2Dit<BabyBear>, Inputs, Rounds>;
 
 /// The plain scheme of that setting, which has no random codewords.
 pub(crate) fn plain_scheme_of(setting: Setting) -> PlainScheme
     ensures log_blowup { result.fri.log_blowup ≡ 2 }
     ensures prover_range { 0 < setting.num_queries
         → InProverRange (parameters_of result.fri) 27 63 }
-    ensures verifier_range { setting.log_final_poly_len ≤ 31
-        → InVerifierRange (parameters_of result.fri) 27 63 }
 {
     TwoAdicFriPcs::new(Radix2Dit::default(), Sha256Mmcs::new(), parameters(setting))
 }
@@ -64,47 +40,21 @@ impl Tested for Scheme {
         setting.num_random_codewords setting.num_queries setting.log_final_poly_len };
 
     fn of(setting: Setting) -> Self {
-        scheme_of(setting)
+        HidingFriPcs::new(
+            Radix2Dit::default(),
+            Sha256Mmcs::new(),
+            parameters(setting),
+            setting.num_random_codewords,
+            generator(),
+        )
     }
 
     fn forked(&mut self) -> Result<Self, AllocError> {
         self.fork()
     }
 
-    fn can_open(
-        &self,
-        setting: Setting,
-        requests: &[OpeningRequest<'_, Data, BabyBear4>],
-        is_first_preprocessed: bool,
-    ) -> bool {
-        let codewords = setting.num_random_codewords;
-        let mmcs = Inputs::new();
-        match requests.split_first() {
-            Some((first, others)) => {
-                is_openable(&mmcs, first, codewords, is_first_preprocessed)
-                    && are_private(&mmcs, others, codewords)
-            }
-            None => false,
-        }
-    }
-
-    fn can_read(&self, setting: Setting, held: &Data, index: usize) -> bool {
-        is_readable(&Inputs::new(), held, setting.num_random_codewords, index)
-    }
-
-    fn state_of(held: &Data) -> DataState {
-        DataState {
-            is_opened: held.is_opened(),
-            is_preprocessing: held.is_preprocessing(),
-            num_random_codewords: held.num_random_codewords(),
-            log_blowup: held.log_blowup(),
-        }
-    }
-
-    fn change_random_values(proof: &mut Proof, counts: &[Counts], change: Change) -> bool {
-        let had = are_opened_so(&proof.0, counts, &[]);
-        change_random(&mut proof.0, change);
-        had
+    fn random_values(proof: &mut Proof) -> &mut OpenedValues<BabyBear4> {
+        &mut proof.0
     }
 
     ghost kept_law = { λ setting old new same is. kept (record old { rng = new.rng }) new same
@@ -124,5 +74,16 @@ impl Tested for Scheme {
       random = domains (λ d. d.log_size) s.fri.log_blowup is.blowup;
       sizes = refl;
       hides = refl;
+    } };
+
+    ghost opens_law = { λ setting s is. record {
+      private = λ requests fresh.
+          all_private _ _ _ _ _ refl is.blowup is.as_many requests fresh;
+      preprocessed = λ requests fresh.
+          first_preprocessed _ _ _ _ _ refl is.blowup is.as_many requests fresh;
+      shown = λ d index domain held below wider.
+          shown _ _ _ _ _ refl is.blowup is.as_many d held index below wider;
+      whole = λ d index domain held below.
+          whole _ _ _ _ _ refl is.blowup is.as_many d held index below;
     } };
 }

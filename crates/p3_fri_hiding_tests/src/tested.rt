@@ -1,31 +1,19 @@
-//! Schemes that tests run by. What commits, opens and verifies is written for any of them, so that
-//! it asks for nothing of its callers, and is called at the hiding scheme. What it commits to is a
-//! law of it, and what is opened or read is tested before.
+//! Schemes that tests run by. What commits, opens and verifies is written for any of them, and is
+//! called at the hiding scheme. What they commit to, open and read are laws of them, so that tests
+//! look at data alone.
 
-ghost use Rattle.std.specs.Prelude.{◌<◌, ◌≤◌, ◌≡◌, IfOk, IsTrue, map, true, false, Some};
-ghost use Rattle.p3_pcs.specs.Requests.{request};
-ghost use Rattle.p3_pcs.specs.Scheme.{CanBeOpened};
+ghost use Rattle.std.specs.Prelude.{◌<◌, ◌≤◌, IfOk};
 ghost use Rattle.p3_fri_hiding_tests.specs.Commits.{Commits};
+ghost use Rattle.p3_fri_hiding_tests.specs.Openable.{Opens};
 ghost use Rattle.p3_fri_hiding_tests.specs.declared.scheme.Setting.{Setting};
 
-use crate::openings::changes::Change;
-use crate::openings::shapes::Counts;
-use crate::scheme::{Domain, Setting, VerifierError};
+use crate::scheme::{Data, Domain, Inputs, Setting, VerifierError};
 use p3_challenger::Sha256Challenger;
 use p3_field::{BabyBear, BabyBear4, Field};
 use p3_fri_masks::HidingFriProverError;
-use p3_pcs::OpeningRequest;
+use p3_mmcs::{Mmcs, OpenedValues};
 use p3_stark_pcs::UnivariateStarkPcs;
 use std::alloc::AllocError;
-
-/// What the data of a commitment is like.
-#[derive(Clone, Copy)]
-pub(crate) struct DataState {
-    pub is_opened: bool,
-    pub is_preprocessing: bool,
-    pub num_random_codewords: usize,
-    pub log_blowup: usize,
-}
 
 /// A scheme that tests run by.
 pub(crate) trait Tested: UnivariateStarkPcs<
@@ -34,6 +22,7 @@ pub(crate) trait Tested: UnivariateStarkPcs<
     Val = BabyBear,
     Domain = Domain,
     Commitment = [u8; 32],
+    ProverData = Data,
     Error = VerifierError,
     ProverError = HidingFriProverError,
 >
@@ -51,34 +40,8 @@ pub(crate) trait Tested: UnivariateStarkPcs<
         ensures forked { IfOk result (λ forked.
             (setting : _) → IsOf setting self.old → IsOf setting forked) };
 
-    /// Whether these may be opened by a scheme of that setting, of which the first may be the
-    /// request of preprocessed columns.
-    fn can_open(
-        &self,
-        setting: Setting,
-        requests: &[OpeningRequest<'_, Self::ProverData, BabyBear4>],
-        is_first_preprocessed: bool,
-    ) -> bool
-        requires { IsOf setting self.now }
-        ensures private { IsTrue result → is_first_preprocessed ≡ false
-            → CanBeOpened (Self.rules self.now) (map request requests.now) }
-        ensures preprocessed { IsTrue result → is_first_preprocessed ≡ true
-            → (Self.stark_rules self.now).CanOpenAt (Some 0) (map request requests.now) };
-
-    /// Whether the data is of a scheme of that setting, and has a matrix of this index, with a
-    /// column beside those that hide the others.
-    fn can_read(&self, setting: Setting, held: &Self::ProverData, index: usize) -> bool
-        requires { IsOf setting self.now }
-        ensures shown { IsTrue result → (domain : _)
-            → (Self.stark_rules self.now).CanEvaluate held.now index domain }
-        ensures whole { IsTrue result → (domain : _)
-            → (Self.stark_rules self.now).CanEvaluateWhole held.now index domain };
-
-    /// What the data is like.
-    fn state_of(held: &Self::ProverData) -> DataState;
-
-    /// Changes the random values beside the proof. Whether they had these counts.
-    fn change_random_values(proof: &mut Self::Proof, counts: &[Counts], change: Change) -> bool;
+    /// The random values beside the proof.
+    fn random_values(proof: &mut Self::Proof) -> &mut OpenedValues<BabyBear4>;
 
     ghost kept_law: { (setting : Setting) (old new : Self) → Self.Keeps old new
         → IsOf setting old → IsOf setting new };
@@ -92,4 +55,8 @@ pub(crate) trait Tested: UnivariateStarkPcs<
     ghost commits_law: { (setting : Setting) (s : Self) → IsOf setting s
         → Commits (Self.rules s) (Self.stark_rules s) Self.ZK ⟦<BabyBear as Field>⟧.ops
         (λ d. d.shift) (λ d. d.log_size) };
+
+    ghost opens_law: { (setting : Setting) (s : Self) → IsOf setting s
+        → Opens setting.num_random_codewords ⟦<Inputs as Mmcs<BabyBear>>⟧.committed
+        (Self.rules s) (Self.stark_rules s) };
 }

@@ -4,33 +4,33 @@ use crate::commitments::commit_to;
 use crate::kind::Kind;
 use crate::masks::readings::{Masked, Masks, is_masked};
 use crate::matrices::{Entries, coset};
-use crate::scheme::{Setting, generator};
-use crate::tested::{DataState, Tested};
+use crate::openable::is_readable;
+use crate::scheme::{Data, Inputs, Setting, generator};
+use crate::tested::Tested;
 use p3_fri_masks::HidingFriProverError;
 use rand_chacha::ChaCha20Rng;
 use std::alloc::Global;
 use std::process::Abort;
 
 /// Matrices that are committed to so.
-#[derive(Clone, Copy)]
-pub(crate) struct Turn<'a> {
+pub(crate) struct Turn {
     pub kind: Kind,
-    pub each: &'a [Entries],
+    pub each: &'static [Entries],
     /// Whether a new fork of the scheme commits to them, and not the scheme.
     pub is_by_fork: bool,
     /// Why that is refused, if it is.
     pub refusal: Option<HidingFriProverError>,
     /// What is read of matrices, from the first on.
-    pub wanted: &'a [Masked],
+    pub wanted: &'static [Masked],
     pub masks: Masks,
 }
 
 /// Whether the data is new, of that call, and of a scheme of so many random codewords.
-fn is_new(state: DataState, kind: Kind, num_random_codewords: usize) -> bool {
-    !state.is_opened
-        && state.is_preprocessing == matches!(kind, Kind::Preprocessed)
-        && state.num_random_codewords == num_random_codewords
-        && state.log_blowup == 2
+fn is_new(held: &Data, kind: &Kind, num_random_codewords: usize) -> bool {
+    !held.is_opened()
+        && held.is_preprocessing() == matches!(kind, Kind::Preprocessed)
+        && held.num_random_codewords() == num_random_codewords
+        && held.log_blowup() == 2
 }
 
 /// Whether a scheme of that setting commits to the input, to new data of which what is wanted is
@@ -40,30 +40,32 @@ fn is_met<P: Tested>(
     scheme: &mut P,
     alloc: Global,
     setting: Setting,
-    turn: &Turn<'_>,
+    turn: &Turn,
     words: &mut ChaCha20Rng,
 ) -> bool
     requires { P.IsOf setting scheme.old }
     ensures { P.IsOf setting scheme.new }
 {
-    match commit_to(rt, &mut *scheme, alloc, setting, turn.kind, turn.each) {
+    match commit_to(rt, &mut *scheme, alloc, setting, &turn.kind, turn.each) {
         Ok(pair) => {
             let (_commitment, held) = pair;
             let mut are_masked = true;
             for index in 0..turn.wanted.len() {
                 let masked = &turn.wanted[index];
                 let domain = coset(rt, masked.domain.0, masked.domain.1);
-                assert!(rt; scheme.can_read(setting, &held, index), "no such matrix");
+                if !is_readable(&Inputs::new(), &held, setting.num_random_codewords, index) {
+                    rt.panic("no such matrix");
+                }
                 let shown = scheme
                     .get_evaluations_on_domain(alloc, &held, index, domain)
                     .expect(rt, "no columns");
                 let whole = scheme
                     .get_evaluations_on_domain_no_random(alloc, &held, index, domain)
                     .expect(rt, "no columns with those that hide them");
-                are_masked = is_masked(&shown, &whole, masked, turn.masks, words) && are_masked;
+                are_masked &= is_masked(&shown, &whole, masked, &turn.masks, words);
             }
             turn.refusal.is_none()
-                && is_new(P::state_of(&held), turn.kind, setting.num_random_codewords)
+                && is_new(&held, &turn.kind, setting.num_random_codewords)
                 && are_masked
         }
         Err(refusal) => turn.refusal == Some(refusal),
@@ -76,19 +78,18 @@ pub(crate) fn are_met_in_turn<P: Tested>(
     rt: &impl Abort,
     alloc: Global,
     setting: Setting,
-    turns: &[Turn<'_>],
+    turns: &[Turn],
 ) -> bool {
     let mut words = generator();
     let mut scheme = P::of(setting);
     let mut are_met = true;
     for turn in turns {
-        let is_met = if turn.is_by_fork {
+        are_met &= if turn.is_by_fork {
             let mut fork = scheme.forked().expect(rt, "memory");
             is_met(rt, &mut fork, alloc, setting, turn, &mut words)
         } else {
             is_met(rt, &mut scheme, alloc, setting, turn, &mut words)
         };
-        are_met = is_met && are_met;
     }
     are_met
 }

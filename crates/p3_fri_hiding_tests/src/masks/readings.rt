@@ -8,7 +8,6 @@ use rand_core::Rng;
 /// A matrix that is masked, read on the coset of this shift and log size: its rows there, or each
 /// second one from the first on, begin with the next numbers, so many to a row, and all else are
 /// masks.
-#[derive(Clone, Copy)]
 pub(crate) struct Masked {
     pub domain: (u64, usize),
     pub numbers: &'static [u64],
@@ -22,7 +21,6 @@ pub(crate) struct Masked {
 }
 
 /// What masks are.
-#[derive(Clone, Copy)]
 pub(crate) enum Masks {
     /// The next words.
     Words,
@@ -36,33 +34,30 @@ pub(crate) fn is_masked(
     shown: &RowMajorMatrix<BabyBear>,
     whole: &RowMajorMatrix<BabyBear>,
     masked: &Masked,
-    masks: Masks,
+    masks: &Masks,
     words: &mut ChaCha20Rng,
 ) -> bool {
-    let mut is_masked = whole.height() == masked.height
-        && whole.width() == masked.columns
-        && shown.height() == masked.height
-        && shown.width() == masked.shown;
+    let mut is_masked = whole.height() == masked.height;
+    is_masked &= whole.width() == masked.columns;
+    is_masked &= shown.height() == masked.height;
+    is_masked &= shown.width() == masked.shown;
     let mut numbers = masked.numbers.iter();
     for row in 0..whole.height() {
-        let has_numbers = row % 2 == 0 || !masked.has_rows_between;
+        let is_between = row % 2 != 0 && masked.has_rows_between;
+        let width = if is_between { 0 } else { masked.width };
         for column in 0..whole.width() {
-            let number = if has_numbers && column < masked.width {
-                numbers.next()
-            } else {
-                None
-            };
+            let number = if column < width { numbers.next() } else { None };
             let found = whole.get(row, column);
-            let wanted = match (number, masks) {
-                (Some(number), _) => Some(BabyBear::from_u64(*number)),
-                (None, Masks::Words) => {
-                    Some(BabyBear::from_u64(words.next_u64() % 2_013_265_921))
-                }
-                (None, Masks::Zeros) => Some(BabyBear::ZERO),
-                (None, Masks::Any) => found,
+            let wanted = match number {
+                Some(number) => Some(BabyBear::from_u64(*number)),
+                None => match masks {
+                    Masks::Words => Some(BabyBear::from_u64(words.next_u64() % 2_013_265_921)),
+                    Masks::Zeros => Some(BabyBear::ZERO),
+                    Masks::Any => found,
+                },
             };
-            let is_shown = column >= masked.shown || shown.get(row, column) == wanted;
-            is_masked = is_masked && is_shown && found == wanted;
+            is_masked &= found == wanted;
+            is_masked &= column >= masked.shown || shown.get(row, column) == wanted;
         }
     }
     is_masked && numbers.next().is_none()

@@ -2,11 +2,10 @@
 
 ghost use Rattle.p3_fri_hiding_tests.specs.Batches.{AreBothReady};
 
-use crate::committable::column;
 use crate::lists::{one, two};
-use crate::matrices::{LATE_E_COLUMN, POINT, SHORT_PI_COLUMN, element};
+use crate::matrices::{LATE_E_COLUMN, POINT, SHORT_PI_COLUMN, element, evaluation};
 use crate::openings::cases::are_moved;
-use crate::scheme::{Domain, SMALL, Setting};
+use crate::scheme::{Data, Domain, SMALL, Setting};
 use crate::tested::Tested;
 use p3_challenger::Sha256Challenger;
 use p3_field::BabyBear4;
@@ -16,51 +15,36 @@ use p3_test_openings::one::commit_one;
 use std::alloc::Global;
 use std::process::Abort;
 
-/// What is known of commitments to a public column and to a private one, and their data.
-#[derive(Drop)]
-struct Both<Data> {
-    known: Vec<KnownCommitment<[u8; 32], Domain>>,
-    preprocessed: Data,
-    private: Data,
-}
-
-/// Commits to both, preprocessing first, by a scheme of that setting, and both may be opened.
+/// Commits to a public column and to a private one, preprocessing first, by a scheme of that setting:
+/// what is known of both, and their data, which may be opened.
 fn commit_both<P: Tested>(
     rt: &impl Abort,
     scheme: &mut P,
     alloc: Global,
     setting: Setting,
-) -> Both<P::ProverData>
+) -> (Vec<KnownCommitment<[u8; 32], Domain>>, Data, Data)
     requires { P.IsOf setting scheme.old }
     ensures of_setting { P.IsOf setting scheme.new }
     ensures ready { AreBothReady (P.rules scheme.new) (P.stark_rules scheme.new)
-        result.known.items result.preprocessed result.private }
+        result.0.items result.1 result.2 }
 {
-    let public = column(rt, alloc, &SHORT_PI_COLUMN, 2);
+    let public = evaluation(rt, alloc, &SHORT_PI_COLUMN, 2);
     let domains = one(rt, alloc, public.0);
     let columns = one(rt, alloc, public);
-    match scheme.commit_preprocessing(alloc, columns) {
+    let committed = scheme.commit_preprocessing(alloc, columns);
+    let (commitment, preprocessed) = committed.expect(rt, "preprocessing is refused");
+    let first = KnownCommitment {
+        commitment,
+        domains,
+    };
+    let column = evaluation(rt, alloc, &LATE_E_COLUMN, 2);
+    match commit_one::<BabyBear4, Sha256Challenger, P>(&mut *scheme, alloc, column) {
         Ok(pair) => {
-            let (commitment, preprocessed) = pair;
-            let first = KnownCommitment {
-                commitment,
-                domains,
-            };
-            let column = column(rt, alloc, &LATE_E_COLUMN, 2);
-            match commit_one::<BabyBear4, Sha256Challenger, P>(&mut *scheme, alloc, column) {
-                Ok(other) => {
-                    let (second, private) = other;
-                    let known = two(rt, alloc, first, second);
-                    Both {
-                        known,
-                        preprocessed,
-                        private,
-                    }
-                }
-                Err(_) => panic!(rt; "the private column is refused"),
-            }
+            let (second, private) = pair;
+            let known = two(rt, alloc, first, second);
+            (known, preprocessed, private)
         }
-        Err(_) => panic!(rt; "preprocessing is refused"),
+        Err(_) => rt.panic("the private column is refused"),
     }
 }
 
@@ -70,32 +54,26 @@ fn commit_both<P: Tested>(
 pub(crate) fn are_both_accepted<P: Tested>(rt: &impl Abort, alloc: Global) -> bool {
     let mut challenger = Sha256Challenger::new();
     let mut scheme = P::of(SMALL);
-    let mut both = commit_both(rt, &mut scheme, alloc, SMALL);
+    let (known, mut preprocessed, mut private) = commit_both(rt, &mut scheme, alloc, SMALL);
     let point = element(POINT);
     let first = OpeningRequest {
-        prover_data: &mut both.preprocessed,
+        prover_data: &mut preprocessed,
         points: one(rt, alloc, one(rt, alloc, point)),
     };
     let second = OpeningRequest {
-        prover_data: &mut both.private,
+        prover_data: &mut private,
         points: one(rt, alloc, one(rt, alloc, point)),
     };
     let mut requests = two(rt, alloc, first, second);
     let answer = open_and_verify_with_preprocessing(
         &scheme,
         alloc,
-        &both.known,
+        &known,
         requests.as_mut_slice(),
         &mut challenger,
         Some(0),
     );
     drop(requests);
-    match answer {
-        Ok(verified) => {
-            are_moved(&challenger, &verified.challenger)
-                && P::state_of(&both.private).is_opened
-                && !P::state_of(&both.preprocessed).is_opened
-        }
-        Err(_) => panic!(rt; "not accepted"),
-    }
+    let verified = answer.expect(rt, "not accepted");
+    are_moved(&challenger, &verified.challenger) && private.is_opened() && !preprocessed.is_opened()
 }

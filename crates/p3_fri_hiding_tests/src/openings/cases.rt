@@ -1,11 +1,12 @@
 //! Cases of openings: what is committed to, and what comes of each opening of it in turn.
 
-use crate::commitments::{commit_to, cosets};
-use crate::matrices::{POINT, coset};
-use crate::openings::changes::{Change, change_claims};
+use crate::commitments::commit_to;
+use crate::lists::push;
+use crate::matrices::{POINT, cosets};
+use crate::openings::changes::{Change, change_claims, change_random};
 use crate::openings::requests::{Batches, Opening, open_each};
 use crate::openings::shapes::{ANY, Counts, First, are_opened_so};
-use crate::scheme::{SMALL, Setting};
+use crate::scheme::{Data, SMALL, Setting, VerifierError};
 use crate::tested::Tested;
 use p3_challenger::Sha256Challenger;
 use p3_fri_masks::HidingFriProverError;
@@ -15,7 +16,6 @@ use std::alloc::Global;
 use std::process::Abort;
 
 /// The call that a verifier answers.
-#[derive(Clone, Copy)]
 pub(crate) enum Call {
     Verify,
     /// With preprocessing, which has this index.
@@ -61,9 +61,25 @@ pub(crate) fn are_moved(prover: &Sha256Challenger, verifier: &Sha256Challenger) 
     *verifier == *prover && *prover != Sha256Challenger::new()
 }
 
+/// Whether the verifier's answer is as it is said. It ends as the prover where it accepts, and else
+/// leaves its challenger as it was.
+fn is_as_said(
+    rt: &impl Abort,
+    alloc: Global,
+    answer: Result<(), VerifierError>,
+    said: &str,
+    prover: &Sha256Challenger,
+    verifier: &Sha256Challenger,
+) -> bool {
+    let Err(refusal) = answer else {
+        return said == "accepted" && are_moved(prover, verifier);
+    };
+    let text = format!(in alloc; "{refusal:?}").expect(rt, "memory");
+    text.as_str() == said && *verifier == Sha256Challenger::new()
+}
+
 /// Whether the values of an opening are those that are wanted, and the verifier answers so to it
-/// once it is changed. It ends as the prover where it accepts, and else leaves its challenger as it
-/// was.
+/// once it is changed.
 fn is_answered<P: Tested>(
     rt: &impl Abort,
     alloc: Global,
@@ -78,12 +94,13 @@ fn is_answered<P: Tested>(
         mut claims,
     } = opened;
     let setting = asked.verifier;
-    assert!(rt;
-        setting.log_final_poly_len <= 31,
-        "a final polynomial too long"
-    );
-    let has_random_values = P::change_random_values(&mut proof, asked.random, asked.change);
-    change_claims(alloc, &mut claims, coset(rt, 1, 2), asked.change);
+    if setting.log_final_poly_len > 31 {
+        rt.panic("a final polynomial too long");
+    }
+    let random = P::random_values(&mut proof);
+    let has_random_values = are_opened_so(&*random, asked.random, &[]);
+    change_random(random, &asked.change);
+    change_claims(alloc, &mut claims, &asked.change);
     let scheme = P::of(setting);
     let answer = match asked.call {
         Call::Verify => scheme.verify(alloc, claims, &proof, verifier),
@@ -91,14 +108,17 @@ fn is_answered<P: Tested>(
             scheme.verify_with_preprocessing(alloc, claims, &proof, verifier, index)
         }
     };
-    let is_as_said = match &answer {
-        Ok(()) => asked.answer == "accepted" && are_moved(prover, verifier),
-        Err(refusal) => {
-            let text = format!(in alloc; "{refusal:?}").expect(rt, "memory");
-            text.as_str() == asked.answer && *verifier == Sha256Challenger::new()
-        }
-    };
+    let is_as_said = is_as_said(rt, alloc, answer, asked.answer, prover, verifier);
     is_as_said && has_random_values && are_opened_so(&values, asked.values, asked.firsts)
+}
+
+/// Whether the data of each commitment counts as opened so.
+fn are_opened(data: &[Data], wanted: &[bool]) -> bool {
+    let mut are_opened = data.len() == wanted.len();
+    for (held, is_opened) in data.iter().zip(wanted) {
+        are_opened &= held.is_opened() == *is_opened;
+    }
+    are_opened
 }
 
 /// Whether each opening of batches in turn is as it is wanted, by challengers that are new before
@@ -111,26 +131,25 @@ pub(crate) fn are_met<P: Tested>(
     openings: &[Asked],
 ) -> bool {
     let setting = batches.setting;
-    assert!(rt; setting.num_queries != 0, "no queries");
+    if setting.num_queries == 0 {
+        rt.panic("no queries");
+    }
     let mut scheme = P::of(setting);
     let mut known = Vec::new(alloc);
     let mut data = Vec::new(alloc);
     for batch in batches.each {
-        match commit_to(rt, &mut scheme, alloc, setting, batch.kind, batch.each) {
-            Ok(pair) => {
-                let (commitment, held) = pair;
-                let domains = cosets(rt, alloc, batch.domains);
-                let known_one = KnownCommitment {
-                    commitment,
-                    domains,
-                };
-                known.push(known_one).expect(rt, "memory");
-                data.push(held).expect(rt, "memory");
-            }
-            Err(_) => panic!(rt; "the commitment is refused"),
-        }
+        let committed = commit_to(rt, &mut scheme, alloc, setting, &batch.kind, batch.each);
+        let (commitment, held) = committed.expect(rt, "the commitment is refused");
+        let domains = cosets(rt, alloc, batch.domains);
+        let of_batch = KnownCommitment {
+            commitment,
+            domains,
+        };
+        push(rt, &mut known, of_batch);
+        push(rt, &mut data, held);
     }
-    let (mut prover, mut verifier) = (Sha256Challenger::new(), Sha256Challenger::new());
+    let mut prover = Sha256Challenger::new();
+    let mut verifier = Sha256Challenger::new();
     let mut are_met = true;
     for asked in openings {
         let answer = open_each(
@@ -143,20 +162,14 @@ pub(crate) fn are_met<P: Tested>(
             asked.points,
             &mut prover,
         );
-        let is_wanted = match answer {
+        are_met &= match answer {
             Ok(opened) => {
-                asked.refusal.is_none()
-                    && is_answered::<P>(rt, alloc, asked, opened, &prover, &mut verifier)
+                is_answered::<P>(rt, alloc, asked, opened, &prover, &mut verifier)
+                    && asked.refusal.is_none()
             }
-            Err(refusal) => { asked.refusal == Some(refusal) && prover == Sha256Challenger::new() }
+            Err(refusal) => asked.refusal == Some(refusal) && prover == Sha256Challenger::new(),
         };
-        are_met = are_met && is_wanted && data.len() == asked.is_opened.len();
-        for index in 0..data.len() {
-            let is_opened = P::state_of(&data[index]).is_opened;
-            are_met = are_met
-                && index < asked.is_opened.len()
-                && is_opened == asked.is_opened[index];
-        }
+        are_met &= are_opened(&data, asked.is_opened);
     }
     are_met
 }

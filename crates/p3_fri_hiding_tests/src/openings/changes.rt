@@ -2,12 +2,11 @@
 
 use crate::matrices::{POINT, element};
 use crate::scheme::Domain;
-use p3_field::{BabyBear4, Field};
+use p3_field::{BabyBear, BabyBear4, Field, TwoAdicMultiplicativeCoset};
 use p3_mmcs::{CommitmentOpening, OpenedValues, PointOpening};
 use std::alloc::Global;
 
 /// A change of it.
-#[derive(Clone, Copy)]
 pub(crate) enum Change {
     Nothing,
     /// Of the private column's random values one is missing.
@@ -29,7 +28,7 @@ pub(crate) enum Change {
 
 /// Changes the random values: those of preprocessing where there is to be one more, else those of
 /// the private column.
-pub(crate) fn change_random(random: &mut OpenedValues<BabyBear4>, change: Change) {
+pub(crate) fn change_random(random: &mut OpenedValues<BabyBear4>, change: &Change) {
     match change {
         Change::NoRandomValues => random.clear(),
         Change::OneRound => random.truncate(1),
@@ -66,8 +65,7 @@ pub(crate) fn change_random(random: &mut OpenedValues<BabyBear4>, change: Change
 pub(crate) fn change_claims(
     alloc: Global,
     claims: &mut Vec<CommitmentOpening<BabyBear4, [u8; 32], Domain>>,
-    low: Domain,
-    change: Change,
+    change: &Change,
 ) {
     if matches!(change, Change::OneRound) {
         claims.truncate(1);
@@ -82,7 +80,11 @@ pub(crate) fn change_claims(
                     };
                     let _pushed = matrix.points.push(more).is_ok();
                 },
-                Change::LowDomain => matrix.domain = low,
+                Change::LowDomain => {
+                    if let Some(low) = TwoAdicMultiplicativeCoset::new(BabyBear::ONE, 2) {
+                        matrix.domain = low;
+                    }
+                },
                 _ => {},
             }
         }

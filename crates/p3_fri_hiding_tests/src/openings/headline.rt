@@ -1,9 +1,8 @@
 //! The headline at a scheme that hides, and what else a STARK asks of it.
 
 use crate::asked::{Question, hold};
-use crate::committable::column;
 use crate::lists::two;
-use crate::matrices::{E_COLUMN, OTHER_POINT, POINT, element};
+use crate::matrices::{E_COLUMN, OTHER_POINT, POINT, element, evaluation};
 use crate::openings::cases::are_moved;
 use crate::openings::quotient::{AT_ONE, BATCHES};
 use crate::scheme::SMALL;
@@ -18,19 +17,17 @@ use std::process::Abort;
 pub(crate) fn is_column_accepted<P: Tested>(rt: &impl Abort, alloc: Global) -> bool {
     let mut challenger = Sha256Challenger::new();
     let mut scheme = P::of(SMALL);
-    let column = column(rt, alloc, &E_COLUMN, 2);
+    let column = evaluation(rt, alloc, &E_COLUMN, 2);
     let points = two(rt, alloc, element(POINT), element(OTHER_POINT));
     match commit_and_show(&mut scheme, alloc, column, points, &mut challenger) {
-        Ok(shown) => {
-            P::state_of(&shown.1).is_opened && are_moved(&challenger, &shown.0.challenger)
-        }
-        Err(_) => panic!(rt; "not accepted"),
+        Ok(shown) => { shown.1.is_opened() && are_moved(&challenger, &shown.0.challenger) }
+        Err(_) => rt.panic("not accepted"),
     }
 }
 
 /// A column, preprocessing beside a private column, a quotient beside its trace and random
 /// polynomials, and a periodic column with these polynomials beside the columns of a STARK.
-static QUESTIONS: [Question<'static>; 4] = [
+static QUESTIONS: [Question; 4] = [
     Question::IsColumnAccepted,
     Question::AreBothAccepted,
     Question::Openings(&BATCHES, &[AT_ONE]),

@@ -79,7 +79,7 @@ const IN_COSET: Asked = Asked {
     ..REFUSED
 };
 
-static CASES: [Question<'static>; 10] = [
+static CASES: [Question; 10] = [
     Question::Openings(&HIGH, &[AT_TWO]),
     // just as many masks as their budget asks for
     Question::Openings(

@@ -49,7 +49,7 @@ const UNCHANGED: Asked = Asked {
     ..ACCEPTED
 };
 
-static CASES: [Question<'static>; 18] = [
+static CASES: [Question; 18] = [
     Question::Openings(&BOTH, &[UNCHANGED]),
     Question::Openings(
         &BOTH,

@@ -47,8 +47,8 @@ pub(crate) const BATCHES: Batches = Batches {
     is_preprocessed: false,
     each: &[
         Batch {
-            kind: Kind::Random,
-            each: &TRACE,
+            kind: Kind::Random(&[(1, 5)]),
+            each: &[],
             domains: &[(1, 5)],
         },
         Batch {

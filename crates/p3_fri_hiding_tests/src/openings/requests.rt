@@ -3,8 +3,10 @@
 ghost use Rattle.std.specs.Prelude.{◌<◌};
 
 use crate::kind::Kind;
+use crate::lists::push;
 use crate::matrices::{Entries, element};
-use crate::scheme::{Domain, Setting};
+use crate::openable::are_openable;
+use crate::scheme::{Data, Domain, Inputs, Setting};
 use crate::tested::Tested;
 use p3_challenger::Sha256Challenger;
 use p3_field::BabyBear4;
@@ -51,15 +53,15 @@ fn requests_of<'a, D>(
         for _domain in batch.domains {
             let mut of_matrix = Vec::new(alloc);
             for each in coefficients {
-                of_matrix.push(element(*each)).expect(rt, "memory");
+                push(rt, &mut of_matrix, element(*each));
             }
-            points.push(of_matrix).expect(rt, "memory");
+            push(rt, &mut points, of_matrix);
         }
         let request = OpeningRequest {
             prover_data,
             points,
         };
-        requests.push(request).expect(rt, "memory");
+        push(rt, &mut requests, request);
     }
     requests
 }
@@ -71,7 +73,7 @@ pub(crate) fn open_each<P: Tested>(
     alloc: Global,
     batches: &Batches,
     known: &[KnownCommitment<[u8; 32], Domain>],
-    data: &mut [P::ProverData],
+    data: &mut [Data],
     coefficients: &[[u64; 4]],
     challenger: &mut Sha256Challenger,
 ) -> Result<Opening<P>, HidingFriProverError>
@@ -79,10 +81,15 @@ pub(crate) fn open_each<P: Tested>(
     requires queries { 0 < batches.now.setting.num_queries }
 {
     let mut requests = requests_of(rt, alloc, data, batches.each, coefficients);
-    assert!(rt;
-        scheme.can_open(batches.setting, &requests, batches.is_preprocessed),
-        "this can't be opened"
-    );
+    let codewords = batches.setting.num_random_codewords;
+    if !are_openable(
+        &Inputs::new(),
+        &requests,
+        codewords,
+        batches.is_preprocessed,
+    ) {
+        rt.panic("this can't be opened");
+    }
     let answer = if batches.is_preprocessed {
         scheme.open_with_preprocessing(alloc, requests.as_mut_slice(), challenger, Some(0))
     } else {
@@ -90,6 +97,6 @@ pub(crate) fn open_each<P: Tested>(
     };
     match with_claims(alloc, known, &requests, answer) {
         Ok(opened) => opened,
-        Err(_) => panic!(rt; "memory"),
+        Err(_) => rt.panic("memory"),
     }
 }

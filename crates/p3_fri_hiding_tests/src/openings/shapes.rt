@@ -9,7 +9,6 @@ pub(crate) type Counts = [usize; 3];
 
 /// What is wanted of a first value: it is added so many times to those before it, back to where
 /// their sum was wanted last, and the sum may be wanted now.
-#[derive(Clone, Copy)]
 pub(crate) struct First {
     pub factor: u64,
     pub sum: Option<u64>,
@@ -37,15 +36,15 @@ pub(crate) fn are_opened_so(
         }
         let [num_matrices, num_points, num_values] = counts[index];
         let matrices = &values[index];
-        are_so = are_so && matrices.len() == num_matrices;
+        are_so &= matrices.len() == num_matrices;
         for points in matrices {
-            are_so = are_so && points.len() == num_points;
+            are_so &= points.len() == num_points;
             for values in points {
-                are_so = are_so && values.len() == num_values;
+                are_so &= values.len() == num_values;
                 if let (Some(first), Some(wanted)) = (values.first(), firsts.next()) {
                     sum = sum + first.scale(BabyBear::from_u64(wanted.factor));
                     if let Some(number) = wanted.sum {
-                        are_so = are_so && sum == BabyBear4::from_base(BabyBear::from_u64(number));
+                        are_so &= sum == BabyBear4::from_base(BabyBear::from_u64(number));
                         sum = BabyBear4::ZERO;
                     }
                 }

@@ -5,11 +5,10 @@ ghost use Rattle.std.specs.Prelude.{◌≡◌, ◌≢◌, ◌*◌, ◌^◌, [], 
 ghost use Rattle.p3_fri_hiding.specs.Quotients.{CanExtend};
 ghost use Rattle.p3_fri_hiding_tests.specs.Fits.{Fits};
 
-use crate::committable::{chunks, column};
+use crate::committable::chunks;
 use crate::lists::{one, two};
-use crate::matrices::{E, E_COLUMN, Entries, PI, PI_COLUMN, coset, element};
+use crate::matrices::{E, E_COLUMN, Entries, PI, coset, element, evaluation, evaluations};
 use crate::openings::cases::are_moved;
-use crate::openings::changes::Change;
 use crate::openings::quotient::{CHUNKS, FIRST_CHUNK, SECOND_CHUNK};
 use crate::openings::shapes::{ANY, Counts, First, are_opened_so};
 use crate::scheme::{Domain, SMALL};
@@ -22,6 +21,12 @@ use std::process::Abort;
 
 /// The root of unity of order 32, by which the rows of the trace are apart.
 const GENERATOR: [u64; 4] = [760_005_850, 0, 0, 0];
+
+static TRACE: [Entries; 1] = [Entries {
+    shift: 1,
+    width: 1,
+    numbers: &PI,
+}];
 
 static QUOTIENT: [Entries; 2] = CHUNKS;
 
@@ -64,8 +69,8 @@ fn stark_columns(rt: &impl Abort, alloc: Global) -> StarkColumns<Domain, BabyBea
     ensures quotient_domains { map (λ d. 2 ^ d.log_size) result.quotient_domains.items
         ≡ map (λ e. 2 * 2 ^ e.0.log_size) result.quotient.items }
 {
-    let preprocessed = one(rt, alloc, column(rt, alloc, &E_COLUMN, 2));
-    let trace = one(rt, alloc, column(rt, alloc, &PI_COLUMN, 2));
+    let preprocessed = one(rt, alloc, evaluation(rt, alloc, &E_COLUMN, 2));
+    let trace = evaluations(rt, alloc, &TRACE, 2);
     let (first, second) = chunks(rt, alloc, &QUOTIENT);
     let of_first = coset(rt, 1, first.0.log_size() + 1);
     let of_second = coset(rt, 1, second.0.log_size() + 1);
@@ -86,13 +91,13 @@ fn stark_columns(rt: &impl Abort, alloc: Global) -> StarkColumns<Domain, BabyBea
 /// random ones beside the proof, where both sides end in one state that isn't the first.
 pub(crate) fn is_stark_served<P: Tested>(rt: &impl Abort, alloc: Global) -> bool {
     let mut scheme = P::of(SMALL);
-    let period = two(rt, alloc, BabyBear::from_u64(1), BabyBear::from_u64(3));
+    let period = two(rt, alloc, BabyBear::ONE, BabyBear::from_u64(3));
     let periodic = one(rt, alloc, period);
     let rows = coset(rt, 1, 3);
     let points = coset(rt, 31, 4);
-    let Ok(table) = scheme.build_periodic_lde_table(alloc, &periodic, rows, points) else {
-        panic!(rt; "no table")
-    };
+    let table = scheme
+        .build_periodic_lde_table(alloc, &periodic, rows, points)
+        .expect(rt, "no table");
     let has_entries = table.height() == 4
         && table.get(0, 0) == Some(BabyBear::from_u64(2_012_342_402))
         && table.get(14, 0) == Some(BabyBear::from_u64(923_523));
@@ -106,11 +111,9 @@ pub(crate) fn is_stark_served<P: Tested>(rt: &impl Abort, alloc: Global) -> bool
         element(GENERATOR),
         &mut challenger,
     );
-    let Ok(mut opened) = answer else {
-        panic!(rt; "not accepted")
-    };
-    let proof = &mut opened.verified.proof;
-    let has_random_values = P::change_random_values(proof, &RANDOM_COUNTS, Change::Nothing);
+    let mut opened = answer.expect(rt, "not accepted");
+    let random = P::random_values(&mut opened.verified.proof);
+    let has_random_values = are_opened_so(&*random, &RANDOM_COUNTS, &[]);
     has_entries
         && has_random_values
         && opened.known.len() == 4

@@ -1,4 +1,4 @@
-use Rattle.std.proofs.Common.{map, sym, subst, ap, ◌∙◌}
+use Rattle.std.proofs.Common.{sym, subst}
 use Rattle.p3_fri_hiding_tests.proofs.commitments.commit_to.Goals as goal
 
 pub commit-requires : goal.commit-requires
@@ -27,7 +27,5 @@ get_quotient_ldes-requires g c =
 pub get_opt_randomization_poly_commitment-requires :
     goal.get_opt_randomization_poly_commitment-requires
 get_opt_randomization_poly_commitment-requires g c = record {
-  room = subst (λ ds. (g.P.UnivariateStarkPcs.stark_rules c.args.scheme.now).CanRandomize ds)
-      (sym (c.domains_of-domains.ensures ∙ ap (λ es. map (λ e. e.0) es) c.deref.ensures.value))
-      ((g.met.P.Tested.commits_law _ _ c.requires).random _ c.evaluations-columns.ensures);
+  room = (g.met.P.Tested.commits_law _ _ c.requires).random _ c.cosets-domains.ensures;
 }

@@ -1,4 +1,5 @@
 use Rattle.std.proofs.Common.{◌≡◌, ◌≤◌, ◌*◌, ◌^◌, map, if◌then◌else◌, sym, subst, ap, arith}
+use Rattle.p3_fri_hiding_tests.specs.FitLaws.{few}
 use Rattle.p3_fri_hiding_tests.proofs.openings.stark.is_stark_served.Goals as goal
 
 pub open_stark_columns-answer-requires-clause-preprocessed :
@@ -35,15 +36,15 @@ pub open_stark_columns-answer-requires-clause-random :
     goal.open_stark_columns-answer-requires-clause-random
 open_stark_columns-answer-requires-clause-random g c = λ _.
     (g.met.P.Tested.commits_law _ _ c.of-scheme.ensures).random _
-    c.stark_columns-columns.ensures.trace
+    (few (λ d. d.log_size) _ c.stark_columns-columns.ensures.trace)
 
 -- a domain of 16 points isn't smaller than one of 8
 pub build_periodic_lde_table-requires : goal.build_periodic_lde_table-requires
 build_periodic_lde_table-requires g c =
     let trace = c.coset-rows.result in
     let domain = c.coset-points.result in
-    let few : 2 ^ trace.log_size ≡ 8 = ap (λ k. 2 ^ k) c.coset-rows.ensures in
-    let many : 2 ^ domain.log_size ≡ 16 = ap (λ k. 2 ^ k) c.coset-points.ensures in
+    let few : 2 ^ trace.log_size ≡ 8 = ap (λ k. 2 ^ k) c.coset-rows.ensures.size in
+    let many : 2 ^ domain.log_size ≡ 16 = ap (λ k. 2 ^ k) c.coset-points.ensures.size in
     record {
       larger = subst (λ size. size trace ≤ size domain)
           (sym (g.met.P.Tested.commits_law _ _ c.of-scheme.ensures).sizes)

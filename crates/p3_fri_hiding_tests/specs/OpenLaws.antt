@@ -1,5 +1,7 @@
--- Data that was seen to be fresh may be opened, and so may requests for it.
-use Rattle.std.proofs.Common.{◌≡◌, ◌≢◌, ◌<◌, ℕ, List, [], ◌∷◌, ◌++◌, Some, true, false, map}
+-- Data that was seen to be fresh may be opened and read, and so may requests for it be opened.
+use Rattle.std.proofs.Common.{◌≡◌, ◌≢◌, ◌<◌, ℕ, List, [], ◌∷◌, ◌++◌, Some, map}
+use Rattle.std.proofs.Common.{true, false}
+use Rattle.std.specs.Prelude.{Bool}
 use Rattle.std.proofs.Common.{length, All, get_or, refl, sym, subst, ◌∙◌, arith}
 use Rattle.std.specs.List.{flat_map}
 use Rattle.std.proofs.lemmas.List.{length-map}
@@ -15,7 +17,7 @@ use Rattle.p3_fri_hiding_openings.specs.declared.data.HidingFriPcsProverData.{Hi
 use Rattle.p3_fri_hiding_openings.specs.Data.{AreWide, IsOfScheme, IsUnopened, IsPreprocessing}
 use Rattle.p3_fri_hiding_openings.specs.Data.{CanRead, CanReadWhole, hidden_columns}
 use Rattle.p3_fri_hiding_openings.specs.Data.{shown_polynomials}
-use Rattle.p3_fri_hiding_tests.specs.Openable.{IsHeld, IsFresh}
+use Rattle.p3_fri_hiding_tests.specs.Openable.{IsHeld, IsFresh, AreFresh}
 
 module _ {F E T : Type 0} (f : Fields F E) (committed : T → List (RowMajorMatrix F)) (b r n : ℕ)
     (top : f.two_adicity ≡ 27) (blowup : b ≡ 2) (as_many : r ≡ n) where
@@ -76,62 +78,65 @@ module _ {F E T : Type 0} (f : Fields F E) (committed : T → List (RowMajorMatr
   some_shown [] ns some e = absurd (omega (arith, some))
   some_shown (m ∷ ms) ns some e = cc
 
-  module _ (rs : List (OpeningRequest (HidingFriPcsProverData T) E))
-      (q : OpeningRequest (HidingFriPcsProverData T) E)
-      (qs : List (OpeningRequest (HidingFriPcsProverData T) E)) (are : rs ≡ q ∷ qs)
-      (first_counted : length q.points.items ≡ length (committed q.prover_data.now.inner))
-      (others : All (λ p. IsFresh n false p.prover_data.now (committed p.prover_data.now.inner)) qs)
-      (others_counted : All (λ p. length p.points.items
-      ≡ length (committed p.prover_data.now.inner)) qs) where
+  module _ (first_preprocessed : Bool)
+      (rs : List (OpeningRequest (HidingFriPcsProverData T) E))
+      (fresh : AreFresh n first_preprocessed committed rs) where
     points : All (λ (p : Request (HidingFriPcsProverData T) E).
-        length p.points ≡ length (shown_polynomials f committed b r p.datum)) (map request (q ∷ qs))
+        length p.points ≡ length (shown_polynomials f committed b r p.datum))
+        (map request (fresh.first ∷ fresh.others))
     points = All-map (λ (p : Request (HidingFriPcsProverData T) E).
-        length p.points ≡ length (shown_polynomials f committed b r p.datum)) request (q ∷ qs)
+        length p.points ≡ length (shown_polynomials f committed b r p.datum)) request
+        (fresh.first ∷ fresh.others)
         (All-cons (λ p. length (request p).points
-        ≡ length (shown_polynomials f committed b r (request p).datum)) q qs
-        (counted q first_counted)
-        (λ k d below. counted (get_or qs k d) (others_counted k d below)))
+        ≡ length (shown_polynomials f committed b r (request p).datum)) fresh.first fresh.others
+        (counted fresh.first fresh.first_counted)
+        (λ k d below. counted (get_or fresh.others k d) (fresh.others_counted k d below)))
 
-    some : 0 < length (committed q.prover_data.now.inner)
-        → flat_map (λ (p : Request (HidingFriPcsProverData T) E).
-        shown_polynomials f committed b r p.datum) (map request (q ∷ qs)) ≢ []
-    some enough = some_shown (shown_polynomials f committed b r q.prover_data.now)
+    some : flat_map (λ (p : Request (HidingFriPcsProverData T) E).
+        shown_polynomials f committed b r p.datum) (map request (fresh.first ∷ fresh.others)) ≢ []
+    some = some_shown (shown_polynomials f committed b r fresh.first.prover_data.now)
         (flat_map (λ (p : Request (HidingFriPcsProverData T) E).
-        shown_polynomials f committed b r p.datum) (map request qs))
-        (subst (λ n. 0 < n) (sym (as_shown q.prover_data.now)) enough)
+        shown_polynomials f committed b r p.datum) (map request fresh.others))
+        (subst (λ n. 0 < n) (sym (as_shown fresh.first.prover_data.now)) fresh.first_fresh.some)
 
-    pub all_private : IsFresh n false q.prover_data.now (committed q.prover_data.now.inner)
-        → AreOpenable (IsUnopened f committed b r) (shown_polynomials f committed b r)
-        (map request rs)
-    all_private first =
-        subst (λ (ps : List (OpeningRequest (HidingFriPcsProverData T) E)).
-        AreOpenable (IsUnopened f committed b r) (shown_polynomials f committed b r)
-        (map request ps)) (sym are)
-        (record {
-          data_openable = All-map (λ (p : Request (HidingFriPcsProverData T) E).
-              IsUnopened f committed b r p.datum) request (q ∷ qs)
-              (All-cons (λ p. IsUnopened f committed b r (request p).datum) q qs
-              (unopened q.prover_data.now first)
-              (λ k d below. unopened (get_or qs k d).prover_data.now (others k d below)));
-          points = points;
-          some_matrix = some first.some;
-        })
+    others_unopened : All (λ p. IsUnopened f committed b r (request p).datum) fresh.others
+    others_unopened = λ k d below.
+        unopened (get_or fresh.others k d).prover_data.now (fresh.others_fresh k d below)
 
-    pub first_preprocessed : IsFresh n true q.prover_data.now (committed q.prover_data.now.inner)
-        → AreOpenableAt (IsUnopened f committed b r) (IsPreprocessing f committed b r)
-        (shown_polynomials f committed b r) (Some 0) (map request rs)
-    first_preprocessed first =
-        subst (λ (ps : List (OpeningRequest (HidingFriPcsProverData T) E)).
-        AreOpenableAt (IsUnopened f committed b r) (IsPreprocessing f committed b r)
-        (shown_polynomials f committed b r) (Some 0) (map request ps)) (sym are)
-        (record {
-          data_openable = (
-            preprocessing q.prover_data.now first,
-            All-map (IsUnopened f committed b r) (λ (p : Request (HidingFriPcsProverData T) E). p.datum)
-                (map request qs) (All-map (λ (p : Request (HidingFriPcsProverData T) E).
-                IsUnopened f committed b r p.datum) request qs
-                (λ k d below. unopened (get_or qs k d).prover_data.now (others k d below))),
-          );
-          points = points;
-          some_matrix = some first.some;
-        })
+  pub all_private : (rs : List (OpeningRequest (HidingFriPcsProverData T) E))
+      → AreFresh n false committed rs
+      → AreOpenable (IsUnopened f committed b r) (shown_polynomials f committed b r)
+      (map request rs)
+  all_private rs fresh =
+      subst (λ (ps : List (OpeningRequest (HidingFriPcsProverData T) E)).
+      AreOpenable (IsUnopened f committed b r) (shown_polynomials f committed b r)
+      (map request ps)) (sym fresh.are)
+      (record {
+        data_openable = All-map (λ (p : Request (HidingFriPcsProverData T) E).
+            IsUnopened f committed b r p.datum) request (fresh.first ∷ fresh.others)
+            (All-cons (λ p. IsUnopened f committed b r (request p).datum) fresh.first fresh.others
+            (unopened fresh.first.prover_data.now fresh.first_fresh)
+            (others_unopened false rs fresh));
+        points = points false rs fresh;
+        some_matrix = some false rs fresh;
+      })
+
+  pub first_preprocessed : (rs : List (OpeningRequest (HidingFriPcsProverData T) E))
+      → AreFresh n true committed rs
+      → AreOpenableAt (IsUnopened f committed b r) (IsPreprocessing f committed b r)
+      (shown_polynomials f committed b r) (Some 0) (map request rs)
+  first_preprocessed rs fresh =
+      subst (λ (ps : List (OpeningRequest (HidingFriPcsProverData T) E)).
+      AreOpenableAt (IsUnopened f committed b r) (IsPreprocessing f committed b r)
+      (shown_polynomials f committed b r) (Some 0) (map request ps)) (sym fresh.are)
+      (record {
+        data_openable = (
+          preprocessing fresh.first.prover_data.now fresh.first_fresh,
+          All-map (IsUnopened f committed b r) (λ (p : Request (HidingFriPcsProverData T) E). p.datum)
+              (map request fresh.others) (All-map (λ (p : Request (HidingFriPcsProverData T) E).
+              IsUnopened f committed b r p.datum) request fresh.others
+              (others_unopened true rs fresh)),
+        );
+        points = points true rs fresh;
+        some_matrix = some true rs fresh;
+      })
