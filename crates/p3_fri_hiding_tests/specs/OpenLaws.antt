@@ -13,7 +13,9 @@ use Rattle.p3_pcs.specs.Requests.{Held, Request, AreOpenable, request}
 use Rattle.p3_stark_pcs.specs.Preprocessing.{AreOpenableAt}
 use Rattle.p3_fri_relation.specs.Setting.{Fields}
 use Rattle.p3_fri_openings.specs.Rounds.{HasCoset}
-use Rattle.p3_fri_hiding_openings.specs.declared.data.HidingFriPcsProverData.{HidingFriPcsProverData}
+use Rattle.p3_fri_hiding_openings.specs.declared.data.HidingFriPcsProverData.{
+  HidingFriPcsProverData,
+}
 use Rattle.p3_fri_hiding_openings.specs.Data.{AreWide, IsOfScheme, IsUnopened, IsPreprocessing}
 use Rattle.p3_fri_hiding_openings.specs.Data.{CanRead, CanReadWhole, hidden_columns}
 use Rattle.p3_fri_hiding_openings.specs.Data.{shown_polynomials}
@@ -56,7 +58,8 @@ module _ {F E T : Type 0} (f : Fields F E) (committed : T → List (RowMajorMatr
 
   pub shown : (d : HidingFriPcsProverData T) → IsHeld n d (committed d.inner) → (index : ℕ)
       → index < length (committed d.inner)
-      → ((m : RowMajorMatrix F) → hidden_columns n d < matrix_width (get_or (committed d.inner) index m))
+      → ((m : RowMajorMatrix F)
+      → hidden_columns n d < matrix_width (get_or (committed d.inner) index m))
       → CanRead f committed b r d index
   shown d held index below wider = record {
     whole = whole d held index below;
@@ -132,7 +135,8 @@ module _ {F E T : Type 0} (f : Fields F E) (committed : T → List (RowMajorMatr
       (record {
         data_openable = (
           preprocessing fresh.first.prover_data.now fresh.first_fresh,
-          All-map (IsUnopened f committed b r) (λ (p : Request (HidingFriPcsProverData T) E). p.datum)
+          All-map (IsUnopened f committed b r)
+              (λ (p : Request (HidingFriPcsProverData T) E). p.datum)
               (map request fresh.others) (All-map (λ (p : Request (HidingFriPcsProverData T) E).
               IsUnopened f committed b r p.datum) request fresh.others
               (others_unopened true rs fresh)),

@@ -75,25 +75,24 @@ const WORD_OF_THIRTY_TWO: Entries = Entries {
 
 /// A commitment of which nothing is read.
 const UNREAD: Turn = Turn {
-    kind: Kind::Private,
-    each: &[],
+    kind: Kind::Private(&[]),
     is_by_fork: false,
     refusal: None,
     wanted: &[],
     masks: Masks::Any,
 };
 
-/// Each call that commits, in turn: to columns, to the same as preprocessing, to words with masks of
-/// the same heights, to random polynomials on domains for them, and to chunks of a quotient, where
-/// there are some. All are refused so, or none is.
+/// Each call that commits, in turn: to columns, to the same as preprocessing, to words with masks
+/// of the same heights, to random polynomials on the domains of the columns, and to chunks of a
+/// quotient, where there are some. All are refused so, or none is.
 macro_rules! calls {
     ($refusal:expr, $columns:expr, $words:expr, $domains:expr $(, $chunks:expr)?) => {
         &[
-            Turn { kind: Kind::Private, each: $columns, refusal: $refusal, ..UNREAD },
-            Turn { kind: Kind::Preprocessed, each: $columns, refusal: $refusal, ..UNREAD },
-            Turn { kind: Kind::Ldes, each: $words, refusal: $refusal, ..UNREAD },
+            Turn { kind: Kind::Private($columns), refusal: $refusal, ..UNREAD },
+            Turn { kind: Kind::Preprocessed($columns), refusal: $refusal, ..UNREAD },
+            Turn { kind: Kind::Ldes($words), refusal: $refusal, ..UNREAD },
             Turn { kind: Kind::Random($domains), refusal: $refusal, ..UNREAD },
-            $(Turn { kind: Kind::Chunks, each: $chunks, refusal: $refusal, ..UNREAD },)?
+            $(Turn { kind: Kind::Chunks($chunks), refusal: $refusal, ..UNREAD },)?
         ]
     };
 }

@@ -3,7 +3,7 @@
 use crate::committable::{chunks, words};
 use crate::kind::Kind;
 use crate::lists::two;
-use crate::matrices::{Entries, cosets, evaluations};
+use crate::matrices::{cosets, evaluations};
 use crate::scheme::{Data, Setting};
 use crate::tested::Tested;
 use p3_fri_masks::HidingFriProverError;
@@ -13,34 +13,33 @@ use std::process::Abort;
 /// A commitment and its data, or why there is none.
 type Commitment = Result<([u8; 32], Data), HidingFriProverError>;
 
-/// Commits so to the matrices of these entries, by a scheme of that setting: those of a trace stand
-/// beside domains of twice as many points.
+/// Commits so, by a scheme of that setting: the matrices of a trace stand beside domains of twice
+/// as many points.
 pub(crate) fn commit_to<P: Tested>(
     rt: &impl Abort,
     scheme: &mut P,
     alloc: Global,
     setting: Setting,
     kind: &Kind,
-    each: &[Entries],
 ) -> Commitment
     requires { P.IsOf setting scheme.old }
     ensures { P.Keeps scheme.old scheme.new }
 {
     match kind {
-        Kind::Private => {
-            let private = evaluations(rt, alloc, each, 2);
+        Kind::Private(each) => {
+            let private = evaluations(rt, alloc, *each, 2);
             scheme.commit(alloc, private)
         },
-        Kind::Preprocessed => {
-            let public = evaluations(rt, alloc, each, 2);
+        Kind::Preprocessed(each) => {
+            let public = evaluations(rt, alloc, *each, 2);
             scheme.commit_preprocessing(alloc, public)
         },
-        Kind::Ldes => {
-            let words = words(rt, alloc, each);
+        Kind::Ldes(each) => {
+            let words = words(rt, alloc, *each);
             scheme.commit_ldes(alloc, words)
         },
-        Kind::Chunks => {
-            let (first, second) = chunks(rt, alloc, each);
+        Kind::Chunks(each) => {
+            let (first, second) = chunks(rt, alloc, *each);
             let chunks = two(rt, alloc, first, second);
             match scheme.get_quotient_ldes(alloc, chunks, 2) {
                 Ok(words) => {

@@ -30,13 +30,15 @@ pub(crate) fn words(
 }
 
 /// The two chunks of a quotient that these entries are, which can be masked with a blowup of 4.
-pub(crate) fn chunks(rt: &impl Abort, alloc: Global, each: &[Entries]) -> (Evaluation, Evaluation)
+pub(crate) fn chunks(
+    rt: &impl Abort,
+    alloc: Global,
+    each: &[Entries; 2],
+) -> (Evaluation, Evaluation)
     ensures { CanExtend ⟦<BabyBear as Field>⟧.ops (λ d. d.shift) (λ d. d.log_size) 27 2
         (result.0 ∷ result.1 ∷ []) 2 }
 {
-    let [of_first, of_second] = each else {
-        rt.panic("not two chunks")
-    };
+    let [of_first, of_second] = each;
     let first = evaluation(rt, alloc, of_first, 1);
     let second = evaluation(rt, alloc, of_second, 1);
     let domains = two(rt, alloc, first.0, second.0);

@@ -1,13 +1,15 @@
-//! How matrices are committed to.
+//! What is committed to, and how.
 
-/// How matrices, each beside a domain, are committed to by one call.
+use crate::matrices::Entries;
+
+/// What one call commits to: matrices, each beside a domain, or what is made of them.
 pub(crate) enum Kind {
-    Private,
-    Preprocessed,
-    /// As words that were extended before.
-    Ldes,
-    /// As the words that the scheme extends these chunks of a quotient to.
-    Chunks,
-    /// Not they, but random polynomials on the domains of these shifts and log sizes.
+    Private(&'static [Entries]),
+    Preprocessed(&'static [Entries]),
+    /// Words that were extended before.
+    Ldes(&'static [Entries]),
+    /// The words that the scheme extends these chunks of a quotient to.
+    Chunks(&'static [Entries; 2]),
+    /// Random polynomials on the domains of these shifts and log sizes.
     Random(&'static [(u64, usize)]),
 }

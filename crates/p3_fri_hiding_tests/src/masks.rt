@@ -47,8 +47,7 @@ const MASKED_E: Masked = Masked {
 
 /// The masks of a scheme's commitments are the words of its generator in turn.
 const WORDS: Turn = Turn {
-    kind: Kind::Private,
-    each: &TRACES,
+    kind: Kind::Private(&TRACES),
     is_by_fork: false,
     refusal: None,
     wanted: &[MASKED_PI, MASKED_E],
@@ -74,7 +73,7 @@ const TOO_LOW: [Entries; 2] = [
 /// A refusal takes none of the words.
 const AFTER_A_REFUSAL: [Turn; 3] = [
     Turn {
-        each: &TOO_LOW,
+        kind: Kind::Private(&TOO_LOW),
         refusal: Some(LOW),
         ..WORDS
     },
@@ -84,7 +83,7 @@ const AFTER_A_REFUSAL: [Turn; 3] = [
 
 /// All columns of preprocessed matrices are shown, with zeros between their rows.
 const PREPROCESSED: [Turn; 1] = [Turn {
-    kind: Kind::Preprocessed,
+    kind: Kind::Preprocessed(&TRACES),
     wanted: &[
         Masked {
             columns: 2,
@@ -112,7 +111,6 @@ const RANDOM_COLUMNS: Masked = Masked {
 
 const RANDOM: [Turn; 1] = [Turn {
     kind: Kind::Random(&[(1, 5), (5, 6)]),
-    each: &[],
     wanted: &[
         RANDOM_COLUMNS,
         Masked {
@@ -127,11 +125,11 @@ const RANDOM: [Turn; 1] = [Turn {
 /// What is committed to by forks.
 const FORKED: Turn = Turn {
     is_by_fork: true,
-    each: &[Entries {
+    kind: Kind::Private(&[Entries {
         shift: 5,
         width: 1,
         numbers: &E,
-    }],
+    }]),
     masks: Masks::Any,
     ..WORDS
 };
@@ -251,8 +249,7 @@ const CHUNK_AT_FIVE: Masked = Masked {
 
 /// Two chunks of 16 rows, on the halves of the coset of 31 of 32 points, read at 5.
 const CHUNKS: [Turn; 1] = [Turn {
-    kind: Kind::Chunks,
-    each: &[
+    kind: Kind::Chunks(&[
         Entries {
             shift: 31,
             width: 2,
@@ -263,7 +260,7 @@ const CHUNKS: [Turn; 1] = [Turn {
             width: 2,
             numbers: &E,
         },
-    ],
+    ]),
     wanted: &[
         CHUNK_AT_FIVE,
         Masked {

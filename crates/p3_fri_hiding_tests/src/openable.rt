@@ -2,30 +2,26 @@
 
 ghost use Rattle.std.specs.Prelude.{◌≡◌, ◌<◌, ◌≤◌, All, IsTrue, false, length, slice_index_or};
 ghost use Rattle.p3_matrix.specs.Matrix.{matrix_width};
+ghost use Rattle.p3_mmcs.specs.ProverData.{matrices_of};
 ghost use Rattle.p3_fri_hiding_openings.specs.Data.{hidden_columns};
 ghost use Rattle.p3_fri_hiding_tests.specs.Openable.{IsHeld, IsFresh, AreFresh};
 
+use crate::scheme::{Data, Inputs};
 use p3_field::{BabyBear, BabyBear4, Field, TwoAdicMultiplicativeCoset};
-use p3_fri_hiding::HidingFriPcsProverData;
 use p3_fri_hiding_openings::{committed_matrices, hidden_columns};
-use p3_mmcs::Mmcs;
 use p3_pcs::OpeningRequest;
 
-/// Whether the data is of so many random codewords and a blowup of 4, and each of its matrices is as
-/// high as a coset is large, and has the columns that hide the others.
-fn is_held<M: Mmcs<BabyBear>>(
-    mmcs: &M,
-    held: &HidingFriPcsProverData<M::ProverData>,
-    codewords: usize,
-) -> bool
-    ensures held { IsTrue result → IsHeld codewords held.now (M.committed held.now.inner) }
+/// Whether the data is of so many random codewords and a blowup of 4, and each of its matrices is
+/// as high as a coset is large, and has the columns that hide the others.
+fn is_held(held: &Data, codewords: usize) -> bool
+    ensures held { IsTrue result → IsHeld codewords held.now (matrices_of held.now.inner) }
     ensures wide { IsTrue result → All (λ m. hidden_columns codewords held.now ≤ matrix_width m)
-        (M.committed held.now.inner) }
+        (matrices_of held.now.inner) }
 {
     if held.num_random_codewords() != codewords || held.log_blowup() != 2 {
         return false;
     }
-    let matrices = committed_matrices(mmcs, held);
+    let matrices = committed_matrices(&Inputs::new(), held);
     let hidden = hidden_columns(held, codewords);
     for matrix in matrices {
         let height = matrix.height();
@@ -41,20 +37,19 @@ fn is_held<M: Mmcs<BabyBear>>(
 }
 
 /// Whether the request is for all matrices of such data, which is preprocessing or may be opened.
-fn is_openable<M: Mmcs<BabyBear>>(
-    mmcs: &M,
-    request: &OpeningRequest<'_, HidingFriPcsProverData<M::ProverData>, BabyBear4>,
+fn is_openable(
+    request: &OpeningRequest<'_, Data, BabyBear4>,
     codewords: usize,
     is_preprocessed: bool,
 ) -> bool
     ensures fresh { IsTrue result → IsFresh codewords is_preprocessed
-        request.now.prover_data.now (M.committed request.now.prover_data.now.inner) }
+        request.now.prover_data.now (matrices_of request.now.prover_data.now.inner) }
     ensures points { IsTrue result → length request.now.points.items
-        ≡ length (M.committed request.now.prover_data.now.inner) }
+        ≡ length (matrices_of request.now.prover_data.now.inner) }
 {
     let held = &*request.prover_data;
-    let matrices = committed_matrices(mmcs, held);
-    if !is_held(mmcs, held, codewords) || held.is_preprocessing() != is_preprocessed {
+    let matrices = committed_matrices(&Inputs::new(), held);
+    if !is_held(held, codewords) || held.is_preprocessing() != is_preprocessed {
         return false;
     }
     if held.is_opened() && !is_preprocessed {
@@ -64,18 +59,14 @@ fn is_openable<M: Mmcs<BabyBear>>(
 }
 
 /// Whether that holds of each request, for private data.
-fn are_private<M: Mmcs<BabyBear>>(
-    mmcs: &M,
-    requests: &[OpeningRequest<'_, HidingFriPcsProverData<M::ProverData>, BabyBear4>],
-    codewords: usize,
-) -> bool
+fn are_private(requests: &[OpeningRequest<'_, Data, BabyBear4>], codewords: usize) -> bool
     ensures fresh { IsTrue result → All (λ r. IsFresh codewords false
-        r.prover_data.now (M.committed r.prover_data.now.inner)) requests.now }
+        r.prover_data.now (matrices_of r.prover_data.now.inner)) requests.now }
     ensures points { IsTrue result → All (λ r. length r.points.items
-        ≡ length (M.committed r.prover_data.now.inner)) requests.now }
+        ≡ length (matrices_of r.prover_data.now.inner)) requests.now }
 {
     for request in requests {
-        if !is_openable(mmcs, request, codewords, false) {
+        if !is_openable(request, codewords, false) {
             return false;
         }
     }
@@ -84,19 +75,17 @@ fn are_private<M: Mmcs<BabyBear>>(
 
 /// Whether the requests may be opened by a scheme of so many random codewords, where the first is
 /// one of preprocessing or not.
-pub(crate) fn are_openable<M: Mmcs<BabyBear>>(
-    mmcs: &M,
-    requests: &[OpeningRequest<'_, HidingFriPcsProverData<M::ProverData>, BabyBear4>],
+pub(crate) fn are_openable(
+    requests: &[OpeningRequest<'_, Data, BabyBear4>],
     codewords: usize,
     is_first_preprocessed: bool,
 ) -> bool
     ensures { IsTrue result
-        → AreFresh codewords is_first_preprocessed M.committed requests.now }
+        → AreFresh codewords is_first_preprocessed matrices_of requests.now }
 {
     match requests.split_first() {
         Some((first, others)) => {
-            is_openable(mmcs, first, codewords, is_first_preprocessed)
-                && are_private(mmcs, others, codewords)
+            is_openable(first, codewords, is_first_preprocessed) && are_private(others, codewords)
         }
         None => false,
     }
@@ -104,19 +93,14 @@ pub(crate) fn are_openable<M: Mmcs<BabyBear>>(
 
 /// Whether the data is such, and has a matrix of this index with a column beside those that hide
 /// the others.
-pub(crate) fn is_readable<M: Mmcs<BabyBear>>(
-    mmcs: &M,
-    held: &HidingFriPcsProverData<M::ProverData>,
-    codewords: usize,
-    index: usize,
-) -> bool
-    ensures held { IsTrue result → IsHeld codewords held.now (M.committed held.now.inner) }
-    ensures below { IsTrue result → index < length (M.committed held.now.inner) }
+pub(crate) fn is_readable(held: &Data, codewords: usize, index: usize) -> bool
+    ensures held { IsTrue result → IsHeld codewords held.now (matrices_of held.now.inner) }
+    ensures below { IsTrue result → index < length (matrices_of held.now.inner) }
     ensures wider { IsTrue result → (m : _) → hidden_columns codewords held.now
-        < matrix_width (slice_index_or (M.committed held.now.inner) index m) }
+        < matrix_width (slice_index_or (matrices_of held.now.inner) index m) }
 {
-    let matrices = committed_matrices(mmcs, held);
-    if !is_held(mmcs, held, codewords) || index >= matrices.len() {
+    let matrices = committed_matrices(&Inputs::new(), held);
+    if !is_held(held, codewords) || index >= matrices.len() {
         return false;
     }
     matrices[index].width() > hidden_columns(held, codewords)

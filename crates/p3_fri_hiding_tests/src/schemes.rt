@@ -1,7 +1,7 @@
 //! The hiding scheme of a setting, as tests run by it, and the plain one.
 
 ghost use Rattle.std.proofs.Common.{refl, sym, subst};
-ghost use Rattle.std.specs.Prelude.{◌≡◌, ◌<◌, ◌≤◌, All, length};
+ghost use Rattle.std.specs.Prelude.{◌≡◌, ◌<◌, All, length};
 ghost use Rattle.p3_fri_relation.specs.Views.{parameters_of};
 ghost use Rattle.p3_fri_two_adic.specs.Ranges.{InProverRange, InVerifierRange};
 ghost use Rattle.p3_fri_two_adic.specs.Ldes.{HasLdeHeight};

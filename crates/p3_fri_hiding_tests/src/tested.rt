@@ -3,15 +3,16 @@
 //! look at data alone.
 
 ghost use Rattle.std.specs.Prelude.{◌<◌, ◌≤◌, IfOk};
+ghost use Rattle.p3_mmcs.specs.ProverData.{matrices_of};
 ghost use Rattle.p3_fri_hiding_tests.specs.Commits.{Commits};
 ghost use Rattle.p3_fri_hiding_tests.specs.Openable.{Opens};
 ghost use Rattle.p3_fri_hiding_tests.specs.declared.scheme.Setting.{Setting};
 
-use crate::scheme::{Data, Domain, Inputs, Setting, VerifierError};
+use crate::scheme::{Data, Domain, Setting, VerifierError};
 use p3_challenger::Sha256Challenger;
 use p3_field::{BabyBear, BabyBear4, Field};
 use p3_fri_masks::HidingFriProverError;
-use p3_mmcs::{Mmcs, OpenedValues};
+use p3_mmcs::OpenedValues;
 use p3_stark_pcs::UnivariateStarkPcs;
 use std::alloc::AllocError;
 
@@ -57,6 +58,6 @@ pub(crate) trait Tested: UnivariateStarkPcs<
         (λ d. d.shift) (λ d. d.log_size) };
 
     ghost opens_law: { (setting : Setting) (s : Self) → IsOf setting s
-        → Opens setting.num_random_codewords ⟦<Inputs as Mmcs<BabyBear>>⟧.committed
+        → Opens setting.num_random_codewords matrices_of
         (Self.rules s) (Self.stark_rules s) };
 }

@@ -3,20 +3,19 @@
 use crate::commitments::commit_to;
 use crate::kind::Kind;
 use crate::masks::readings::{Masked, Masks, is_masked};
-use crate::matrices::{Entries, coset};
+use crate::matrices::coset;
 use crate::openable::is_readable;
-use crate::scheme::{Data, Inputs, Setting, generator};
+use crate::scheme::{Data, Setting, generator};
 use crate::tested::Tested;
 use p3_fri_masks::HidingFriProverError;
 use rand_chacha::ChaCha20Rng;
 use std::alloc::Global;
 use std::process::Abort;
 
-/// Matrices that are committed to so.
+/// What is committed to.
 pub(crate) struct Turn {
     pub kind: Kind,
-    pub each: &'static [Entries],
-    /// Whether a new fork of the scheme commits to them, and not the scheme.
+    /// Whether a new fork of the scheme commits to it, and not the scheme.
     pub is_by_fork: bool,
     /// Why that is refused, if it is.
     pub refusal: Option<HidingFriProverError>,
@@ -28,7 +27,7 @@ pub(crate) struct Turn {
 /// Whether the data is new, of that call, and of a scheme of so many random codewords.
 fn is_new(held: &Data, kind: &Kind, num_random_codewords: usize) -> bool {
     !held.is_opened()
-        && held.is_preprocessing() == matches!(kind, Kind::Preprocessed)
+        && held.is_preprocessing() == matches!(kind, Kind::Preprocessed(_))
         && held.num_random_codewords() == num_random_codewords
         && held.log_blowup() == 2
 }
@@ -46,14 +45,14 @@ fn is_met<P: Tested>(
     requires { P.IsOf setting scheme.old }
     ensures { P.IsOf setting scheme.new }
 {
-    match commit_to(rt, &mut *scheme, alloc, setting, &turn.kind, turn.each) {
+    match commit_to(rt, &mut *scheme, alloc, setting, &turn.kind) {
         Ok(pair) => {
             let (_commitment, held) = pair;
             let mut are_masked = true;
             for index in 0..turn.wanted.len() {
                 let masked = &turn.wanted[index];
                 let domain = coset(rt, masked.domain.0, masked.domain.1);
-                if !is_readable(&Inputs::new(), &held, setting.num_random_codewords, index) {
+                if !is_readable(&held, setting.num_random_codewords, index) {
                     rt.panic("no such matrix");
                 }
                 let shown = scheme

@@ -15,8 +15,8 @@ use p3_test_openings::one::commit_one;
 use std::alloc::Global;
 use std::process::Abort;
 
-/// Commits to a public column and to a private one, preprocessing first, by a scheme of that setting:
-/// what is known of both, and their data, which may be opened.
+/// Commits to a public column and to a private one, preprocessing first, by a scheme of that
+/// setting: what is known of both, and their data, which may be opened.
 fn commit_both<P: Tested>(
     rt: &impl Abort,
     scheme: &mut P,

@@ -138,7 +138,7 @@ pub(crate) fn are_met<P: Tested>(
     let mut known = Vec::new(alloc);
     let mut data = Vec::new(alloc);
     for batch in batches.each {
-        let committed = commit_to(rt, &mut scheme, alloc, setting, &batch.kind, batch.each);
+        let committed = commit_to(rt, &mut scheme, alloc, setting, &batch.kind);
         let (commitment, held) = committed.expect(rt, "the commitment is refused");
         let domains = cosets(rt, alloc, batch.domains);
         let of_batch = KnownCommitment {

@@ -16,12 +16,11 @@ const LOW: Batches = Batches {
     setting: SMALL,
     is_preprocessed: false,
     each: &[Batch {
-        kind: Kind::Private,
-        each: &[Entries {
+        kind: Kind::Private(&[Entries {
             shift: 1,
             width: 1,
             numbers: &SHORT_PI,
-        }],
+        }]),
         domains: &[(1, 5)],
     }],
 };
@@ -31,12 +30,11 @@ const HIGH: Batches = Batches {
     setting: SMALL,
     is_preprocessed: false,
     each: &[Batch {
-        kind: Kind::Private,
-        each: &[Entries {
+        kind: Kind::Private(&[Entries {
             shift: 1,
             width: 1,
             numbers: &E,
-        }],
+        }]),
         domains: &[(1, 6)],
     }],
 };

@@ -17,21 +17,19 @@ const BOTH: Batches = Batches {
     is_preprocessed: true,
     each: &[
         Batch {
-            kind: Kind::Preprocessed,
-            each: &[Entries {
+            kind: Kind::Preprocessed(&[Entries {
                 shift: 1,
                 width: 1,
                 numbers: &SHORT_PI,
-            }],
+            }]),
             domains: &[(1, 5)],
         },
         Batch {
-            kind: Kind::Private,
-            each: &[Entries {
+            kind: Kind::Private(&[Entries {
                 shift: 1,
                 width: 1,
                 numbers: &LATE_E,
-            }],
+            }]),
             domains: &[(1, 5)],
         },
     ],
@@ -215,12 +213,11 @@ const ZEROS: Batches = Batches {
     setting: SMALL,
     is_preprocessed: true,
     each: &[Batch {
-        kind: Kind::Preprocessed,
-        each: &[Entries {
+        kind: Kind::Preprocessed(&[Entries {
             shift: 1,
             width: 1,
             numbers: &[0; 16],
-        }],
+        }]),
         domains: &[(1, 5)],
     }],
 };

@@ -48,17 +48,14 @@ pub(crate) const BATCHES: Batches = Batches {
     each: &[
         Batch {
             kind: Kind::Random(&[(1, 5)]),
-            each: &[],
             domains: &[(1, 5)],
         },
         Batch {
-            kind: Kind::Private,
-            each: &TRACE,
+            kind: Kind::Private(&TRACE),
             domains: &[(1, 5)],
         },
         Batch {
-            kind: Kind::Chunks,
-            each: &CHUNKS,
+            kind: Kind::Chunks(&CHUNKS),
             domains: &[(1, 5), (1, 5)],
         },
     ],

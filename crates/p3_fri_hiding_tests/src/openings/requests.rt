@@ -4,9 +4,9 @@ ghost use Rattle.std.specs.Prelude.{◌<◌};
 
 use crate::kind::Kind;
 use crate::lists::push;
-use crate::matrices::{Entries, element};
+use crate::matrices::element;
 use crate::openable::are_openable;
-use crate::scheme::{Data, Domain, Inputs, Setting};
+use crate::scheme::{Data, Domain, Setting};
 use crate::tested::Tested;
 use p3_challenger::Sha256Challenger;
 use p3_field::BabyBear4;
@@ -24,11 +24,9 @@ pub(crate) type Opening<P> = Opened<
     <P as Pcs<BabyBear4, Sha256Challenger>>::Proof,
 >;
 
-/// Matrices that are committed to so, and the shifts and log sizes of domains on which they are
-/// claimed.
+/// What is committed to, and the shifts and log sizes of domains on which its matrices are claimed.
 pub(crate) struct Batch {
     pub kind: Kind,
-    pub each: &'static [Entries],
     pub domains: &'static [(u64, usize)],
 }
 
@@ -82,12 +80,7 @@ pub(crate) fn open_each<P: Tested>(
 {
     let mut requests = requests_of(rt, alloc, data, batches.each, coefficients);
     let codewords = batches.setting.num_random_codewords;
-    if !are_openable(
-        &Inputs::new(),
-        &requests,
-        codewords,
-        batches.is_preprocessed,
-    ) {
+    if !are_openable(&requests, codewords, batches.is_preprocessed) {
         rt.panic("this can't be opened");
     }
     let answer = if batches.is_preprocessed {

@@ -1,7 +1,7 @@
 use Rattle.p3_fri_hiding_tests.proofs.openable.are_openable.Goals as goal
 
 pub returns-then-is_openable : goal.returns-then-is_openable
-returns-then-is_openable g c = λ t. record {
+returns-then-is_openable c = λ t. record {
   first = c.in-Some.first.now;
   others = c.in-Some.others.now;
   are = c.in-Some.ensures.cases.0;

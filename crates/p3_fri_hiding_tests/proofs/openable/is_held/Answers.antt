@@ -7,7 +7,7 @@ use Rattle.p3_fri_hiding_tests.proofs.Each.{one_more, to_the_end}
 use Rattle.p3_fri_hiding_tests.proofs.openable.is_held.Goals as goal
 
 pub loop-matrix-preserved : goal.loop-matrix-preserved
-loop-matrix-preserved g c =
+loop-matrix-preserved c =
     let matrices = c.committed_matrices-matrices.result.now in
     let hidden = c.hidden_columns-hidden.result in
     let matrix = c.matrix-item.result in
@@ -28,7 +28,7 @@ loop-matrix-preserved g c =
     }
 
 pub returns-clause-held : goal.returns-clause-held
-returns-clause-held g c = λ t. record {
+returns-clause-held c = λ t. record {
   as_many = omega arith;
   blowup = omega arith;
   cosets = subst (λ ms. All (HasCoset 27) ms) c.committed_matrices-matrices.ensures
@@ -37,7 +37,7 @@ returns-clause-held g c = λ t. record {
 }
 
 pub returns-clause-wide : goal.returns-clause-wide
-returns-clause-wide g c = λ t.
+returns-clause-wide c = λ t.
     let hidden : ℕ = c.hidden_columns-hidden.result in
     subst (λ ms. All (λ m. hidden_columns c.args.codewords c.args.held.now ≤ matrix_width m) ms)
     c.committed_matrices-matrices.ensures
