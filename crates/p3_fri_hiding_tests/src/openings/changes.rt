@@ -2,7 +2,7 @@
 
 use crate::matrices::{POINT, element};
 use crate::scheme::Domain;
-use p3_field::{BabyBear, BabyBear4, Field, TwoAdicMultiplicativeCoset};
+use p3_field::{BabyBear4, Field};
 use p3_mmcs::{CommitmentOpening, OpenedValues, PointOpening};
 use std::alloc::Global;
 
@@ -80,11 +80,7 @@ pub(crate) fn change_claims(
                     };
                     let _pushed = matrix.points.push(more).is_ok();
                 },
-                Change::LowDomain => {
-                    if let Some(low) = TwoAdicMultiplicativeCoset::new(BabyBear::ONE, 2) {
-                        matrix.domain = low;
-                    }
-                },
+                Change::LowDomain => matrix.domain.log_size = 2,
                 _ => {},
             }
         }
