@@ -2,7 +2,7 @@
 
 use p3_challenger::{CanSample, Sha256Challenger};
 use p3_field::BabyBear;
-use std::alloc::{AllocError, AllocFailed};
+use std::alloc::AllocError;
 use std::fmt::{Debug, Write};
 use std::io::ErrorKind;
 use std::{fmt, io};
@@ -11,7 +11,7 @@ use std::{fmt, io};
 pub type Result<T> = std::result::Result<T, Fault>;
 
 /// Why no call was answered.
-#[derive(Clone, Copy)]
+#[derive(Drop)]
 pub enum Fault {
     /// There is no call of that name.
     Name,
@@ -25,12 +25,6 @@ pub enum Fault {
 
 impl From<AllocError> for Fault {
     fn from(_error: AllocError) -> Self {
-        Fault::Memory
-    }
-}
-
-impl<T: Drop> From<AllocFailed<T>> for Fault {
-    fn from(_error: AllocFailed<T>) -> Self {
         Fault::Memory
     }
 }

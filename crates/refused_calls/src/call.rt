@@ -3,7 +3,6 @@
 use crate::answer::Name;
 
 /// A call of a scheme.
-#[derive(Clone, Copy)]
 pub enum SchemeCall {
     Commit,
     Open,
@@ -15,21 +14,19 @@ pub enum SchemeCall {
 }
 
 /// A call of a tree.
-#[derive(Clone, Copy)]
 pub enum TreeCall {
     Commit,
     OpenMultiBatch,
 }
 
 /// A call of the converse that interpolates.
-#[derive(Clone, Copy)]
 pub enum Interpolation {
     Unfold,
     UnfoldWithInput,
     Unbatch,
 }
 
-#[derive(Clone, Copy)]
+/// A call.
 pub enum Call {
     Plain(SchemeCall),
     Hiding(SchemeCall),

@@ -19,6 +19,7 @@ mod tree;
 
 use crate::answer::{Fault, Name, Result};
 use crate::call::{CALLS, Call};
+use crate::settings::{Hiding, Plain};
 use p3_challenger::fs::{Prover, Verifier};
 use p3_field::BabyBear;
 use p3_mmcs::Sha256Mmcs;
@@ -26,10 +27,10 @@ use std::env;
 use std::process::ExitCode;
 
 /// Makes a call and prints what it answers after this name.
-fn make(rt: &HostRuntime, name: Name, call: Call) -> Result<()> {
+fn make(rt: &HostRuntime, name: Name, call: &Call) -> Result<()> {
     match call {
-        Call::Plain(call) => settings::make_plain(rt, name, call),
-        Call::Hiding(call) => settings::make_hiding(rt, name, call),
+        Call::Plain(call) => schemes::make::<Plain>(rt, name, call),
+        Call::Hiding(call) => schemes::make::<Hiding>(rt, name, call),
         Call::Prover => transcripts::begin::<Prover>(rt, name),
         Call::Verifier => transcripts::begin::<Verifier>(rt, name),
         Call::PcsProver => transcripts::begin_pcs::<Prover>(rt, name),
@@ -44,16 +45,16 @@ fn make(rt: &HostRuntime, name: Name, call: Call) -> Result<()> {
 
 /// Makes the call that the arguments name, or each where there are none.
 fn run(rt: &HostRuntime) -> Result<()> {
-    let args: Vec<String> = env::args(rt)?.skip(1).collect(rt.alloc())?;
-    let asked = match args.as_slice() {
-        [] => None,
-        [subject, call] => Some((subject.as_str(), call.as_str())),
-        _ => return Err(Fault::Name),
-    };
+    let args: Vec<String> = env::args(rt)?.collect(rt.alloc())?;
     let mut is_known = false;
     for (name, call) in &CALLS {
-        if asked.is_none() || asked == Some(*name) {
-            make(rt, *name, *call)?;
+        let is_asked = match args.as_slice() {
+            [] | [_] => true,
+            [_, subject, own] => (subject.as_str(), own.as_str()) == *name,
+            _ => false,
+        };
+        if is_asked {
+            make(rt, *name, call)?;
             is_known = true;
         }
     }

@@ -39,7 +39,10 @@ pub fn matrix(alloc: Global, log_height: usize, width: usize) -> Result<RowMajor
 pub fn coset(shift: u64, log_size: usize) -> Result<Domain>
     ensures { IfOk result (λ domain. domain.log_size ≡ log_size) }
 {
-    Domain::new(BabyBear::from_u64(shift), log_size).ok_or(Fault::Inputs)
+    match Domain::new(BabyBear::from_u64(shift), log_size) {
+        Some(domain) => Ok(domain),
+        None => Err(Fault::Inputs),
+    }
 }
 
 /// For each of so many matrices so many points, which lie in no coset of the base field.

@@ -9,13 +9,19 @@ use p3_test_openings::listed::pair;
 use std::fmt::Debug;
 
 /// `commit`, to two matrices of two heights, or `open_multi_batch` of that.
-pub fn make<M: Mmcs<BabyBear>>(rt: &HostRuntime, name: Name, call: TreeCall, tree: &M) -> Result<()>
+pub fn make<M: Mmcs<BabyBear>>(
+    rt: &HostRuntime,
+    name: Name,
+    call: &TreeCall,
+    tree: &M,
+) -> Result<()>
 where
     M::Commitment: Debug,
     M::MultiProof: Debug,
 {
     let alloc = rt.alloc();
-    let (first, second) = (matrix(alloc, 3, 2)?, matrix(alloc, 1, 1)?);
+    let first = matrix(alloc, 3, 2)?;
+    let second = matrix(alloc, 1, 1)?;
     let matrices = pair(alloc, first, second)?;
     let answer = tree.commit(alloc, matrices);
     if let TreeCall::Commit = call {

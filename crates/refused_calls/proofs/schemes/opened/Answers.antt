@@ -1,8 +1,0 @@
-use Rattle.std.proofs.Common.{◌∙◌}
-use Rattle.refused_calls.proofs.Requests.{openable}
-use Rattle.refused_calls.proofs.schemes.opened.Goals as goal
-
-pub open-requires-clause-shape : goal.open-requires-clause-shape
-open-requires-clause-shape g c =
-    openable _ _ _ _ (c.as_mut_slice.ensures.value ∙ c.in_ok-requests.ensures)
-    c.requires.openable c.requires.one_each c.requires.some
