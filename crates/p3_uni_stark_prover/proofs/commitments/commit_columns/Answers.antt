@@ -396,10 +396,11 @@ returns-clause-committed g c =
     c.in_ok-found.found c.in_ok-found.ensures.random c.split-random_data.result.0
     c.split-random_data.result.1 c.split-random_data.ensures.commitment c.split-random_data.ensures.committed
 
--- where nothing is answered nothing is said of the answer
+-- of what is answered no refusal is said
 pub returns-clause-refused : goal.returns-clause-refused
 returns-clause-refused g c = tt
 
+-- where nothing is answered nothing is said of the answer
 pub returns-in_err-found-clause-committed : goal.returns-in_err-found-clause-committed
 returns-in_err-found-clause-committed g c =
     IfOk-from_err c.from_residual-in_err-found.result _ c.from_residual-in_err-found.ensures.0

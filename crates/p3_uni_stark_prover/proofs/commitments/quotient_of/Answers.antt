@@ -65,10 +65,11 @@ returns-clause-quotient g c = record {
       c.args.prepared.now.coset.shift c.requires.shift;
 }
 
--- where nothing is answered nothing is said of the answer
+-- of what is answered no refusal is said
 pub returns-clause-refused : goal.returns-clause-refused
 returns-clause-refused g c = tt
 
+-- where nothing is answered nothing is said of the answer
 pub returns-in_err-chunks-clause-quotient : goal.returns-in_err-chunks-clause-quotient
 returns-in_err-chunks-clause-quotient g c =
     IfOk-from_err c.from_residual-in_err-chunks.result _ c.from_residual-in_err-chunks.ensures.0

@@ -110,10 +110,11 @@ returns-clause-prepared g c =
       },
     )
 
--- where nothing is answered nothing is said of the answer
+-- of what is answered no refusal is said
 pub returns-clause-refused : goal.returns-clause-refused
 returns-clause-refused g c = tt
 
+-- where nothing is answered nothing is said of the answer
 pub returns-in_err-coset-clause-height : goal.returns-in_err-coset-clause-height
 returns-in_err-coset-clause-height g c =
     IfOk-from_err c.from_residual-in_err-coset.result _ c.from_residual-in_err-coset.ensures.0

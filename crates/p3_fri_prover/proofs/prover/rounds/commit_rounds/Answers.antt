@@ -146,7 +146,7 @@ returns-clause-rounds g c = λ top whole.
     let committed = c.loop-log_arity.invariant.so_far top whole in
     rw all at committed
 
--- where nothing is answered nothing is said of the answer
+-- of what is answered no refusal is said
 pub returns-clause-refused : goal.returns-clause-refused
 returns-clause-refused g c = tt
 
@@ -156,6 +156,7 @@ returns-in-Err-clause-rounds g c = tt
 pub returns-in-Err-clause-steps : goal.returns-in-Err-clause-steps
 returns-in-Err-clause-steps g c = tt
 
+-- where nothing is answered nothing is said of the answer
 pub returns-in_err-rounds-clause-steps : goal.returns-in_err-rounds-clause-steps
 returns-in_err-rounds-clause-steps g c =
     IfOk-from_err c.from_residual.result _ c.from_residual.ensures.0
