@@ -26,7 +26,7 @@ returns-clause-form g c =
     let empty : length c.loop.reader.left.now ≡ 0 = grind (arith, common_steps) in
     let none : c.loop.reader.left.now ≡ [] = nil_from_length c.loop.reader.left.now empty in
     let same : c.in_ok-count.count ≡ c.loop.matrices.len =
-        omega (arith, c.loop-test.false, c.loop.auto.counter-end, c.loop.invariant.count) in
+    omega (arith, c.loop-test.false, c.loop.auto.counter-end, c.loop.invariant.count) in
     list_read (matrix c.args.layout) (record_of g.F.PrimeField64.canonical) c.args.bytes.now c.loop.reader.left.now
     c.in_ok-count.count c.loop.matrices.len c.loop.matrices.items c.loop.invariant.form none same
 

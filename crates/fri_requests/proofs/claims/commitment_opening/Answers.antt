@@ -50,4 +50,3 @@ returns-clause-numbers g c =
     (image_all (λ ms. map matrix_listed ms) c.args.claims.now.matrices.items c.loop-index.index
     (subst (λ ys. length ys ≤ c.loop-index.index) c.deref-matrix-items.ensures.value c.loop-index-test.false)
     c.loop-index.invariant)
-

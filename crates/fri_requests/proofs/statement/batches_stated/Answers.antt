@@ -77,4 +77,3 @@ bounds-points-index g c =
       same_length _ _ (nested c.args.points.now) c.args.batches.now c.requires.points,
       length-map c.args.points.now (λ v. lists v.items),
     )
-
