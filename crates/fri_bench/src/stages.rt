@@ -56,7 +56,7 @@ pub fn print(rt: &HostRuntime, (sizes, repeats): Run<3>) -> Result<()> {
     }
     let [extension, both, transform, tree] = watches;
     println!(rt;
-        "extension {extension}, with bit reversal {both}, transform {transform}, tree {tree} {last:?}"
+        "extension {extension}, bit-reversed {both}, transform {transform}, tree {tree} {last:?}"
     )?;
     Ok(())
 }
