@@ -6,9 +6,9 @@ use p3_fri_core::config::{
     FriParameters, compute_log_arity_for_round, fold_schedule, is_strictly_falling,
 };
 use p3_mmcs::GrindingSites;
+use std::process::Abort;
 
 /// Heights, the most that a round folds, and the schedule from them down to 2.
-#[derive(Clone, Copy)]
 struct Schedule {
     name: &'static str,
     heights: &'static [usize],
@@ -77,14 +77,19 @@ static HEIGHTS: [(&str, &[usize], bool); 4] = [
 #[test]
 fn schedules_stop_where_an_input_joins(rt: HostRuntime) {
     for (name, heights, falling) in &HEIGHTS {
-        assert!(rt; is_strictly_falling(*heights) == *falling, "{name}");
+        if is_strictly_falling(*heights) != *falling {
+            rt.panic(*name);
+        }
     }
     for case in &SCHEDULES {
         let (heights, most) = (case.heights, case.max_log_arity);
-        assert!(rt; is_strictly_falling(heights), "{}", case.name);
-        assert!(rt; most != 0, "{}", case.name);
+        if !is_strictly_falling(heights) || most == 0 {
+            rt.panic(case.name);
+        }
         let schedule = fold_schedule(rt.alloc(), heights, 2, most).expect(&rt, case.name);
-        assert!(rt; schedule.as_slice() == case.rounds, "{}", case.name);
+        if schedule.as_slice() != case.rounds {
+            rt.panic(case.name);
+        }
     }
     // the cap, the distance to the final height, that to the next input, and one above a low input
     let rounds = [
@@ -93,11 +98,10 @@ fn schedules_stop_where_an_input_joins(rt: HostRuntime) {
         compute_log_arity_for_round(7, Some(6), 2, 3),
         compute_log_arity_for_round(10, Some(1), 2, 9),
     ];
-    assert!(rt; rounds == [3, 2, 1, 8], "the least of cap and distances");
+    assert!(rt; rounds == [3, 2, 1, 8]);
 }
 
 /// A constructor of parameters.
-#[derive(Clone, Copy)]
 enum Preset {
     Testing(usize),
     TestingZk,
@@ -107,11 +111,11 @@ enum Preset {
 }
 
 /// Its parameters, with 7 for the tree.
-fn parameters_of(preset: Preset) -> FriParameters<u8>
+fn parameters_of(preset: &Preset) -> FriParameters<u8>
     ensures { result.log_blowup * result.num_queries + result.query_proof_of_work_bits < 2 ^ 64 }
 {
     match preset {
-        Preset::Testing(log_final_poly_len) => FriParameters::new_testing(7, log_final_poly_len),
+        Preset::Testing(log_final_poly_len) => FriParameters::new_testing(7, *log_final_poly_len),
         Preset::TestingZk => FriParameters::new_testing_zk(7),
         Preset::Benchmark => FriParameters::new_benchmark(7),
         Preset::BenchmarkHighArity => FriParameters::new_benchmark_high_arity(7),
@@ -122,7 +126,6 @@ fn parameters_of(preset: Preset) -> FriParameters<u8>
 /// A constructor's soundness bits and its regime: logarithms of blowup, bits of the final
 /// polynomial and of the arity, the number of queries, and the bits of proof of work in the commit
 /// phase and in the query phase.
-#[derive(Clone, Copy)]
 struct Constructed {
     name: &'static str,
     preset: Preset,
@@ -177,7 +180,7 @@ static CONSTRUCTED: [Constructed; 7] = [
 
 /// Whether the constructor's parameters have these bits and this regime, and the tree.
 fn is_constructed(case: &Constructed) -> bool {
-    let parameters = parameters_of(case.preset);
+    let parameters = parameters_of(&case.preset);
     let regime = parameters.security_regime();
     let numbers = [
         regime.log_blowup,
@@ -191,29 +194,6 @@ fn is_constructed(case: &Constructed) -> bool {
     (bits == case.bits) & (numbers == case.regime) & (parameters.mmcs == 7)
 }
 
-/// The blowup, the length of the final polynomial and the arity of parameters for tests, and the
-/// arity of those for figures that fold high.
-fn powers_of_two() -> [usize; 4] {
-    let parameters = FriParameters::new_testing(7u8, 3);
-    let high_arity = FriParameters::new_benchmark_high_arity(7u8);
-    [
-        parameters.blowup(),
-        parameters.final_poly_len(),
-        parameters.max_arity(),
-        high_arity.max_arity(),
-    ]
-}
-
-fn the_batch_bits_are_a_site_of_their_own() -> bool {
-    let mut parameters = FriParameters::new_testing(7u8, 0);
-    let without = parameters.grinding_sites();
-    parameters.batch_proof_of_work_bits = 7;
-    let sites = GrindingSites {
-        batch_combination: 7,
-    };
-    (without == GrindingSites::NONE) & (parameters.grinding_sites() == sites)
-}
-
 /// How parameters are printed.
 static PRINTED: &str = "FriParameters { log_blowup: 2, log_final_poly_len: 0, max_log_arity: 1, \
     num_queries: 100, batch_proof_of_work_bits: 10, commit_proof_of_work_bits: 0, \
@@ -222,10 +202,28 @@ static PRINTED: &str = "FriParameters { log_blowup: 2, log_final_poly_len: 0, ma
 #[test]
 fn parameters_are_constructed_read_cloned_and_printed(rt: HostRuntime) {
     for case in &CONSTRUCTED {
-        assert!(rt; is_constructed(case), "{}", case.name);
+        if !is_constructed(case) {
+            rt.panic(case.name);
+        }
     }
-    assert!(rt; powers_of_two() == [4, 8, 2, 8]);
-    assert!(rt; the_batch_bits_are_a_site_of_their_own());
+    let mut parameters = FriParameters::new_testing(7u8, 3);
+    let powers_of_two = [
+        parameters.blowup(),
+        parameters.final_poly_len(),
+        parameters.max_arity(),
+        FriParameters::new_benchmark_high_arity(7u8).max_arity(),
+    ];
+    let without = parameters.grinding_sites();
+    parameters.batch_proof_of_work_bits = 7;
+    // the batch's bits are a site of their own
+    let sites = GrindingSites {
+        batch_combination: 7,
+    };
+    assert!(rt;
+        (powers_of_two == [4, 8, 2, 8])
+            & (without == GrindingSites::NONE)
+            & (parameters.grinding_sites() == sites)
+    );
     let parameters = FriParameters::new_benchmark_zk(7u8)
         .clone()
         .expect(&rt, "memory");

@@ -44,7 +44,6 @@ const SEVENFOLD_POINTS: &[u64] = &[
 /// Numbers as `2^log_height` rows of `2^log_arity`, or if none are listed those from 0 on, and the
 /// word that they fold to at beta, or at the field's generator. The word isn't compared if none is
 /// listed.
-#[derive(Clone, Copy)]
 struct Fold {
     name: &'static str,
     values: &'static [u64],
@@ -56,7 +55,7 @@ struct Fold {
 
 /// The numbers from 0 on, at the field's generator.
 const COUNTED: Fold = Fold {
-    name: "the numbers from 0 on",
+    name: "1 row of 2 counted",
     values: &[],
     log_height: 0,
     log_arity: 1,
@@ -119,89 +118,108 @@ static FOLDS: [Fold; 26] = [
     },
     COUNTED,
     Fold {
+        name: "1 row of 4 counted",
         log_arity: 2,
         ..COUNTED
     },
     Fold {
+        name: "1 row of 8 counted",
         log_arity: 3,
         ..COUNTED
     },
     Fold {
+        name: "1 row of 16 counted",
         log_arity: 4,
         ..COUNTED
     },
     Fold {
+        name: "4 rows of 2 counted",
         log_height: 2,
         ..COUNTED
     },
     Fold {
+        name: "4 rows of 4 counted",
         log_height: 2,
         log_arity: 2,
         ..COUNTED
     },
     Fold {
+        name: "4 rows of 8 counted",
         log_height: 2,
         log_arity: 3,
         ..COUNTED
     },
     Fold {
+        name: "4 rows of 16 counted",
         log_height: 2,
         log_arity: 4,
         ..COUNTED
     },
     Fold {
+        name: "8 rows of 2 counted",
         log_height: 3,
         ..COUNTED
     },
     Fold {
+        name: "8 rows of 4 counted",
         log_height: 3,
         log_arity: 2,
         ..COUNTED
     },
     Fold {
+        name: "8 rows of 8 counted",
         log_height: 3,
         log_arity: 3,
         ..COUNTED
     },
     Fold {
+        name: "8 rows of 16 counted",
         log_height: 3,
         log_arity: 4,
         ..COUNTED
     },
     Fold {
+        name: "16 rows of 2 counted",
         log_height: 4,
         ..COUNTED
     },
     Fold {
+        name: "16 rows of 4 counted",
         log_height: 4,
         log_arity: 2,
         ..COUNTED
     },
     Fold {
+        name: "16 rows of 8 counted",
         log_height: 4,
         log_arity: 3,
         ..COUNTED
     },
     Fold {
+        name: "16 rows of 16 counted",
         log_height: 4,
         log_arity: 4,
         ..COUNTED
     },
     Fold {
+        name: "64 rows of 2 counted",
         log_height: 6,
         ..COUNTED
     },
     Fold {
+        name: "64 rows of 4 counted",
         log_height: 6,
         log_arity: 2,
         ..COUNTED
     },
     Fold {
+        name: "64 rows of 8 counted",
         log_height: 6,
         log_arity: 3,
         ..COUNTED
     },
     Fold {
+        name: "64 rows of 16 counted",
         log_height: 6,
         log_arity: 4,
         ..COUNTED
@@ -234,34 +252,14 @@ fn rows_of<EF: Copy + Drop>(
     ensures width { matrix_width result ≡ 2 ^ log_arity }
 {
     let width = 1 << log_arity;
-    assert!(rt; values.len() % width == 0, "the values aren't whole rows");
+    if values.len() % width != 0 {
+        rt.panic("the values aren't whole rows");
+    }
     let matrix = RowMajorMatrix::new(values, width);
     if matrix.height() != 1 << log_height {
         rt.panic("the values are another number of rows");
     }
     matrix
-}
-
-/// Whether each entry of the word is the fold of its row.
-fn rows_fold_to<EF: ExtensionField<BabyBear>, S: FriFoldingStrategy<BabyBear, EF>>(
-    folding: &S,
-    matrix: &RowMajorMatrix<EF>,
-    log_height: usize,
-    log_arity: usize,
-    beta: EF,
-    word: &[EF],
-) -> bool
-    requires positive { 1 ≤ log_arity }
-    requires height { length (rows matrix.now) ≡ 2 ^ log_height }
-    requires width { matrix_width matrix.now ≡ 2 ^ log_arity }
-    requires within_max_height { log_height + log_arity ≤ S.max_log_height folding.now }
-{
-    let mut is_right = word.len() == matrix.height();
-    for index in 0..matrix.height() {
-        let fold = folding.fold_row(index, log_height, log_arity, beta, matrix.row(index));
-        is_right &= word.get(index) == Some(&fold);
-    }
-    is_right
 }
 
 /// Whether the values fold to the word, as a matrix and row by row.
@@ -274,9 +272,9 @@ fn is_folded<EF: ExtensionField<BabyBear>, S: FriFoldingStrategy<BabyBear, EF>>(
     requires { S.max_log_height folding.now ≡ 27 }
 {
     let (log_height, log_arity) = (fold.log_height, fold.log_arity);
-    assert!(rt; log_height <= 20, "a greater height");
-    assert!(rt; 1 <= log_arity, "no arity");
-    assert!(rt; log_arity <= 4, "a greater arity");
+    if log_height > 20 || log_arity == 0 || log_arity > 4 {
+        rt.panic("another height or arity");
+    }
     let beta = match fold.beta {
         Some(number) => EF::from_u64(number),
         None => EF::GENERATOR,
@@ -286,55 +284,41 @@ fn is_folded<EF: ExtensionField<BabyBear>, S: FriFoldingStrategy<BabyBear, EF>>(
     let word = folding.fold_matrix(alloc, beta, log_arity, &matrix);
     let word = word.expect(rt, "memory");
     let wanted: Vec<EF> = elements(rt, alloc, fold.word, fold.word.len());
-    let are_folds = rows_fold_to(folding, &matrix, log_height, log_arity, beta, &word);
-    are_folds & (wanted.is_empty() | (word == wanted))
-}
-
-/// Whether a line that is 4 + X at the points 1 and -1 folds to its value at 7 at each height.
-fn first_rows_fold<EF: ExtensionField<BabyBear>, S: FriFoldingStrategy<BabyBear, EF>>(
-    rt: &impl Abort,
-    alloc: Global,
-    folding: &S,
-) -> bool
-    requires { S.max_log_height folding.now ≡ 27 }
-{
-    let line: Vec<EF> = elements(rt, alloc, &[5, 3], 2);
-    assert!(rt; line.len() == 2, "the line has another number of values");
-    let (seven, eleven) = (EF::from_u64(7), EF::from_u64(11));
-    let mut is_right = true;
-    for log_height in 0..27 {
-        is_right &= folding.fold_row(0, log_height, 1, seven, &line) == eleven;
+    let mut is_right = wanted.is_empty() | (word == wanted);
+    let height = matrix.height();
+    is_right &= word.len() == height;
+    for index in 0..height {
+        let fold = folding.fold_row(index, log_height, log_arity, beta, matrix.row(index));
+        is_right &= word.get(index) == Some(&fold);
     }
     is_right
 }
 
 /// Asserts that all folds are right by a strategy over the whole two-adicity with so many extra
-/// bits.
+/// bits, and that a line that is 4 + X at the points 1 and -1 folds to its value at 7 at each
+/// height.
 fn assert_folds<EF: ExtensionField<BabyBear>, S: FriFoldingStrategy<BabyBear, EF>>(
     rt: &impl Abort,
     alloc: Global,
     folding: &S,
     extra_bits: usize,
 ) {
-    if folding.max_log_height() != 27 {
-        rt.panic("the whole two-adicity");
+    let line: Vec<EF> = elements(rt, alloc, &[5, 3], 2);
+    if folding.max_log_height() != 27 || line.len() != 2 {
+        rt.panic("the whole two-adicity and a line");
     }
-    assert!(rt;
-        folding.extra_query_index_bits() == extra_bits,
-        "extra bits"
-    );
-    assert!(rt;
-        first_rows_fold(rt, alloc, folding),
-        "the first row of each height"
-    );
+    if folding.extra_query_index_bits() != extra_bits {
+        rt.panic("extra bits");
+    }
+    for log_height in 0..27 {
+        if folding.fold_row(0, log_height, 1, EF::from_u64(7), &line) != EF::from_u64(11) {
+            rt.panic("the first row of a height");
+        }
+    }
     for fold in &FOLDS {
-        assert!(rt;
-            is_folded(rt, alloc, folding, fold),
-            "{}, {}, {}",
-            fold.name,
-            fold.log_height,
-            fold.log_arity
-        );
+        if !is_folded(rt, alloc, folding, fold) {
+            rt.panic(fold.name);
+        }
     }
 }
 

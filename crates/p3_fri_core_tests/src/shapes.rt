@@ -16,6 +16,12 @@ fn stream_of(rt: &impl Abort, alloc: Global, shape: &FriShape) -> Vec<u8> {
         .expect(rt, "memory")
 }
 
+/// Bits that no round asks for.
+static WITHOUT_ROUNDS: [(&str, usize); 2] = [
+    ("a stream without rounds", 0),
+    ("a stream without rounds, five bits", 5),
+];
+
 static STREAM_WITHOUT_ROUNDS: [u8; 142] = [
     0x01, 0x00, 0x00, 0x00, 0x00, 0x00, 0x00, 0x00, 0x06, 0x70, 0x33, 0x2d, 0x66, 0x72, 0x69, 0x00,
     0x00, 0x00, 0x00, 0x00, 0x00, 0x00, 0x02, 0x00, 0x00, 0x01, 0x00, 0x00, 0x00, 0x00, 0x00, 0x00,
@@ -28,40 +34,33 @@ static STREAM_WITHOUT_ROUNDS: [u8; 142] = [
     0x00, 0x00, 0x00, 0x00, 0x00, 0x08, 0x00, 0x00, 0x00, 0x00, 0x00, 0x00, 0x00, 0x01,
 ];
 
-/// Whether the shape of parameters has three rounds and twelve steps, and is its clone and the
-/// scheduled one.
-fn parameters_have_their_shape(rt: &impl Abort, alloc: Global) -> bool {
-    let mut parameters = FriParameters::new_testing((), 0);
-    parameters.max_log_arity = 3;
-    let shape = FriShape::new(alloc, &parameters, &[10], 12).expect(rt, "memory");
-    let copy = shape.clone(alloc).expect(rt, "memory");
-    let pattern = shape
-        .pattern::<BabyBear, BabyBear4>(alloc)
-        .expect(rt, "memory");
-    let rounds = Vec::from_slice(alloc, &[3, 3, 2]).expect(rt, "memory");
-    let scheduled = FriShape::with_schedule(&parameters, rounds, 12);
-    (shape.log_arities.as_slice() == [3, 3, 2].as_slice())
-        & (copy == shape)
-        & (scheduled == shape)
-        & (pattern.steps().len() == 12)
-}
-
 #[test]
 fn shapes(rt: HostRuntime) {
     let alloc = rt.alloc();
-    for commit_pow_bits in &[0, 5] {
+    for (name, commit_pow_bits) in &WITHOUT_ROUNDS {
         let mut shape = shape_of(&rt, alloc, &[], *commit_pow_bits, 0);
         shape.num_queries = 2;
         shape.index_bits = 1;
         shape.max_log_arity = 1;
         let stream = stream_of(&rt, alloc, &shape);
-        assert!(rt;
-            stream.as_slice() == STREAM_WITHOUT_ROUNDS.as_slice(),
-            "a stream without rounds, {commit_pow_bits} bits"
-        );
+        if stream.as_slice() != STREAM_WITHOUT_ROUNDS.as_slice() {
+            rt.panic(*name);
+        }
     }
     let falling = stream_of(&rt, alloc, &shape_of(&rt, alloc, &[3, 3, 2], 0, 0));
     let rising = stream_of(&rt, alloc, &shape_of(&rt, alloc, &[2, 3, 3], 0, 0));
-    assert!(rt; falling != rising, "rounds in order");
-    assert!(rt; parameters_have_their_shape(&rt, alloc), "parameters");
+    assert!(rt; falling != rising);
+    // parameters have a shape of three rounds and twelve steps: its clone and the scheduled one
+    let mut parameters = FriParameters::new_testing((), 0);
+    parameters.max_log_arity = 3;
+    let shape = FriShape::new(alloc, &parameters, &[10], 12).expect(&rt, "memory");
+    let copy = shape.clone(alloc).expect(&rt, "memory");
+    let pattern = shape
+        .pattern::<BabyBear, BabyBear4>(alloc)
+        .expect(&rt, "memory");
+    let rounds = Vec::from_slice(alloc, &[3, 3, 2]).expect(&rt, "memory");
+    let has_rounds = shape.log_arities == rounds;
+    let scheduled = FriShape::with_schedule(&parameters, rounds, 12);
+    let has_steps = pattern.steps().len() == 12;
+    assert!(rt; has_rounds & has_steps & (copy == shape) & (scheduled == shape));
 }

@@ -1,21 +1,20 @@
 //! Counts and refusals, and runs of both sides, step by step and as a whole. The drawn values were
 //! computed from the rules of the formats with the hashlib module of Python's standard library.
 
-ghost use Rattle.std.specs.Prelude.{◌≤◌};
-
 mod cases;
 mod prover;
 mod verifier;
 
-use crate::run::{Run, element, witness_of};
-use cases::{Answer, CASES, Case, Form};
+use crate::run::{Run, element, shape_of, witness_of};
+use cases::{CASES, Case};
 use p3_challenger::Sha256Challenger;
+use p3_challenger::fs::Script;
 use p3_field::{BabyBear, BabyBear4, Field};
 use p3_fri_core::transcript::{FriMessages, Refusal};
-use prover::{proves_as_a_whole, proves_in_steps};
+use prover::proves;
 use std::alloc::Global;
 use std::process::Abort;
-use verifier::{absorb_seed, verify_as_a_whole, verify_in_steps};
+use verifier::verify;
 
 /// What both sides draw and find along a test of one round.
 fn drawn() -> Run {
@@ -27,47 +26,18 @@ fn drawn() -> Run {
     }
 }
 
-/// What the verifier returns.
-fn verify(
-    rt: &impl Abort,
-    alloc: Global,
-    challenger: &mut Sha256Challenger,
-    case: &Case,
-    sent: FriMessages<'_, BabyBear, BabyBear4, [u8; 32]>,
-    run: &Run,
-) -> Answer
-    requires commit_bits { case.now.commit_pow_bits ≤ 63 }
-    requires query_bits { case.now.query_pow_bits ≤ 63 }
-{
-    match case.verifier {
-        Form::Steps => verify_in_steps(rt, alloc, challenger, case, sent, run),
-        Form::Whole => verify_as_a_whole(rt, alloc, challenger, case, sent, run),
-    }
-}
-
-/// Whether the prover's transcript is the run.
-fn proves(
-    rt: &impl Abort,
-    alloc: Global,
-    challenger: &mut Sha256Challenger,
-    form: Form,
-    run: &Run,
-) -> bool {
-    let final_poly = [BabyBear4::from_u64(5)];
-    match form {
-        Form::Steps => proves_in_steps(rt, alloc, challenger, &final_poly, run),
-        Form::Whole => proves_as_a_whole(rt, alloc, challenger, &final_poly, run),
-    }
-}
-
 /// Whether both sides run as the case says, by new challengers: the prover's transcript is the run,
 /// and the verifier returns what the case says and ends where it says.
 fn is_met(rt: &impl Abort, alloc: Global, case: &Case) -> bool {
-    assert!(rt; case.commitments <= 50, "more commitments");
-    assert!(rt; case.commit_witnesses <= 50, "more witnesses");
-    assert!(rt; case.coefficients <= 3, "more coefficients");
-    assert!(rt; case.commit_pow_bits <= 63, "more bits");
-    assert!(rt; case.query_pow_bits <= 63, "more bits");
+    let (commit_bits, query_bits) = (case.commit_pow_bits, case.query_pow_bits);
+    if commit_bits > 63
+        || query_bits > 63
+        || case.commitments > 50
+        || case.commit_witnesses > 50
+        || case.coefficients > 3
+    {
+        rt.panic("more bits, rounds or coefficients");
+    }
     let witnesses = [BabyBear::from_u64(case.commit_witness); 50];
     let fives = [BabyBear4::from_u64(5); 3];
     let sent = FriMessages {
@@ -80,10 +50,14 @@ fn is_met(rt: &impl Abort, alloc: Global, case: &Case) -> bool {
     let mut prover = Sha256Challenger::new();
     let mut verifier = Sha256Challenger::new();
     let mut seeded = Sha256Challenger::new();
-    let answer = verify(rt, alloc, &mut verifier, case, sent, &run);
-    let is_run = proves(rt, alloc, &mut prover, case.prover, &run);
-    absorb_seed(rt, alloc, &mut seeded, case);
-    let is_unmoved = verifier == Sha256Challenger::new();
+    let shape = shape_of(rt, alloc, case.log_arities, commit_bits, query_bits);
+    let seed = shape
+        .seed::<BabyBear, BabyBear4>(alloc)
+        .expect(rt, "memory");
+    let answer = verify(alloc, &mut verifier, &case.verifier, shape, sent, &run);
+    let is_run = proves(rt, alloc, &mut prover, &case.prover, &run);
+    let is_unmoved = verifier == seeded;
+    let _script = Script::start::<BabyBear, Sha256Challenger>(&mut seeded, seed);
     let end = (verifier == seeded, verifier == prover);
     let is_so = is_run & (answer == case.answer) & (end == case.end);
     is_so | (case.is_seed_optional & (answer == Err(Refusal::Seed)) & is_unmoved)
@@ -92,6 +66,8 @@ fn is_met(rt: &impl Abort, alloc: Global, case: &Case) -> bool {
 #[test]
 fn transcripts(rt: HostRuntime) {
     for case in &CASES {
-        assert!(rt; is_met(&rt, rt.alloc(), case), "{}", case.name);
+        if !is_met(&rt, rt.alloc(), case) {
+            rt.panic(case.name);
+        }
     }
 }

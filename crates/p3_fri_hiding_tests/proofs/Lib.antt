@@ -1,5 +1,6 @@
 mod Each
 mod Fitting
+mod Fresh
 mod LargerDomains
 mod Maskable
 mod TwoRequests

@@ -1,5 +1,5 @@
 -- Data of hiding commitments that may be opened or read, and requests for it.
-use Rattle.std.specs.Prelude.{◌≡◌, ◌<◌, ◌≤◌, ℕ, List, ◌∷◌, map, length, slice_index_or, All}
+use Rattle.std.specs.Prelude.{◌≡◌, ◌<◌, ◌≤◌, ℕ, List, [], ◌∷◌, map, length, slice_index_or, All}
 use Rattle.std.specs.Prelude.{Bool, true, false, Some}
 use Rattle.p3_matrix.specs.declared.dense.RowMajorMatrix.{RowMajorMatrix}
 use Rattle.p3_matrix.specs.Matrix.{matrix_width}
@@ -29,6 +29,19 @@ pub record IsFresh {T F : Type 0} (codewords : ℕ) (preprocessed : Bool)
   pub unopened : preprocessed ≡ false → d.opened ≡ false
   pub wide : preprocessed ≡ false → All (λ m. codewords ≤ matrix_width m) matrices
   pub some : 0 < length matrices
+
+-- a request for all matrices of such data
+pub record IsAsked {T F E : Type 0} (codewords : ℕ) (committed : T → List (RowMajorMatrix F))
+    (preprocessed : Bool) (r : OpeningRequest (HidingFriPcsProverData T) E) : Type 0 where
+  pub fresh : IsFresh codewords preprocessed r.prover_data.now (committed r.prover_data.now.inner)
+  pub counted : length r.points.items ≡ length (committed r.prover_data.now.inner)
+
+-- requests of which the first may be for preprocessing
+unfoldable pub AreAsked : {T F E : Type 0} → ℕ → (T → List (RowMajorMatrix F)) → Bool
+    → List (OpeningRequest (HidingFriPcsProverData T) E) → Type 0
+AreAsked codewords committed first_preprocessed [] = Unit
+AreAsked codewords committed first_preprocessed (r ∷ rs) =
+    IsAsked codewords committed first_preprocessed r × AreAsked codewords committed false rs
 
 -- requests for all matrices of such data, of which the first may be preprocessing
 pub record AreFresh {T F E : Type 0} (codewords : ℕ) (first_preprocessed : Bool)

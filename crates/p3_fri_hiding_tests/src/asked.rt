@@ -55,7 +55,7 @@ fn ask(rt: &impl Abort, alloc: Global, question: &Question) -> bool {
             };
             let (hiding, held) = commit_and_open(rt, Scheme::of(setting), alloc, 2);
             let (plain, _held) = commit_and_open(rt, plain_scheme_of(setting), alloc, 1);
-            held.is_opened() && is_named(*work, hiding, plain)
+            held.is_opened() & is_named(*work, hiding, plain)
         }
         _ => answer_of::<Scheme>(rt, alloc, question),
     }

@@ -1,10 +1,10 @@
 //! Whether what was committed to may be opened or read.
 
-ghost use Rattle.std.specs.Prelude.{◌≡◌, ◌<◌, ◌≤◌, All, IsTrue, false, length, slice_index_or};
+ghost use Rattle.std.specs.Prelude.{◌≡◌, ◌<◌, ◌≤◌, All, IsTrue, length, slice_index_or};
 ghost use Rattle.p3_matrix.specs.Matrix.{matrix_width};
 ghost use Rattle.p3_mmcs.specs.ProverData.{matrices_of};
 ghost use Rattle.p3_fri_hiding_openings.specs.Data.{hidden_columns};
-ghost use Rattle.p3_fri_hiding_tests.specs.Openable.{IsHeld, IsFresh, AreFresh};
+ghost use Rattle.p3_fri_hiding_tests.specs.Openable.{IsHeld, AreFresh};
 
 use crate::scheme::{Data, Inputs};
 use p3_field::{BabyBear, BabyBear4, Field, TwoAdicMultiplicativeCoset};
@@ -36,45 +36,8 @@ fn is_held(held: &Data, codewords: usize) -> bool
     true
 }
 
-/// Whether the request is for all matrices of such data, which is preprocessing or may be opened.
-fn is_openable(
-    request: &OpeningRequest<'_, Data, BabyBear4>,
-    codewords: usize,
-    is_preprocessed: bool,
-) -> bool
-    ensures fresh { IsTrue result → IsFresh codewords is_preprocessed
-        request.now.prover_data.now (matrices_of request.now.prover_data.now.inner) }
-    ensures points { IsTrue result → length request.now.points.items
-        ≡ length (matrices_of request.now.prover_data.now.inner) }
-{
-    let held = &*request.prover_data;
-    let matrices = committed_matrices(&Inputs::new(), held);
-    if !is_held(held, codewords) || held.is_preprocessing() != is_preprocessed {
-        return false;
-    }
-    if held.is_opened() && !is_preprocessed {
-        return false;
-    }
-    matrices.len() != 0 && request.points.len() == matrices.len()
-}
-
-/// Whether that holds of each request, for private data.
-fn are_private(requests: &[OpeningRequest<'_, Data, BabyBear4>], codewords: usize) -> bool
-    ensures fresh { IsTrue result → All (λ r. IsFresh codewords false
-        r.prover_data.now (matrices_of r.prover_data.now.inner)) requests.now }
-    ensures points { IsTrue result → All (λ r. length r.points.items
-        ≡ length (matrices_of r.prover_data.now.inner)) requests.now }
-{
-    for request in requests {
-        if !is_openable(request, codewords, false) {
-            return false;
-        }
-    }
-    true
-}
-
-/// Whether the requests may be opened by a scheme of so many random codewords, where the first is
-/// one of preprocessing or not.
+/// Whether the requests are for all matrices of such data, the first of preprocessing or not, and
+/// all else of private data that wasn't opened.
 pub(crate) fn are_openable(
     requests: &[OpeningRequest<'_, Data, BabyBear4>],
     codewords: usize,
@@ -83,12 +46,22 @@ pub(crate) fn are_openable(
     ensures { IsTrue result
         → AreFresh codewords is_first_preprocessed matrices_of requests.now }
 {
-    match requests.split_first() {
-        Some((first, others)) => {
-            is_openable(first, codewords, is_first_preprocessed) && are_private(others, codewords)
+    let mut is_preprocessed = is_first_preprocessed;
+    for request in requests {
+        let held = &*request.prover_data;
+        let matrices = committed_matrices(&Inputs::new(), held);
+        if !is_held(held, codewords) || held.is_preprocessing() != is_preprocessed {
+            return false;
         }
-        None => false,
+        if held.is_opened() && !is_preprocessed {
+            return false;
+        }
+        if matrices.len() == 0 || request.points.len() != matrices.len() {
+            return false;
+        }
+        is_preprocessed = false;
     }
+    requests.len() != 0
 }
 
 /// Whether the data is such, and has a matrix of this index with a column beside those that hide

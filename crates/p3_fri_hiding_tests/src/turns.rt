@@ -27,9 +27,9 @@ pub(crate) struct Turn {
 /// Whether the data is new, of that call, and of a scheme of so many random codewords.
 fn is_new(held: &Data, kind: &Kind, num_random_codewords: usize) -> bool {
     !held.is_opened()
-        && held.is_preprocessing() == matches!(kind, Kind::Preprocessed(_))
-        && held.num_random_codewords() == num_random_codewords
-        && held.log_blowup() == 2
+        & (held.is_preprocessing() == matches!(kind, Kind::Preprocessed(_)))
+        & (held.num_random_codewords() == num_random_codewords)
+        & (held.log_blowup() == 2)
 }
 
 /// Whether a scheme of that setting commits to the input, to new data of which what is wanted is
@@ -64,8 +64,8 @@ fn is_met<P: Tested>(
                 are_masked &= is_masked(&shown, &whole, masked, &turn.masks, words);
             }
             turn.refusal.is_none()
-                && is_new(&held, &turn.kind, setting.num_random_codewords)
-                && are_masked
+                & is_new(&held, &turn.kind, setting.num_random_codewords)
+                & are_masked
         }
         Err(refusal) => turn.refusal == Some(refusal),
     }

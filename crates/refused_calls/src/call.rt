@@ -13,6 +13,12 @@ pub enum SchemeCall {
     GetEvaluationsOnDomain,
 }
 
+/// A call that begins a transcript.
+pub enum TranscriptCall {
+    LowDegreeTest,
+    Opening,
+}
+
 /// A call of a tree.
 pub enum TreeCall {
     Commit,
@@ -30,10 +36,8 @@ pub enum Interpolation {
 pub enum Call {
     Plain(SchemeCall),
     Hiding(SchemeCall),
-    Prover,
-    Verifier,
-    PcsProver,
-    PcsVerifier,
+    Prover(TranscriptCall),
+    Verifier(TranscriptCall),
     Tree(TreeCall),
     FromPlain,
     Interpolate(Interpolation),
@@ -81,10 +85,22 @@ pub static CALLS: [(Name, Call); 26] = [
         ("hiding", "get_evaluations_on_domain"),
         Call::Hiding(SchemeCall::GetEvaluationsOnDomain),
     ),
-    (("transcript", "prover"), Call::Prover),
-    (("transcript", "verifier"), Call::Verifier),
-    (("transcript", "pcs_prover"), Call::PcsProver),
-    (("transcript", "pcs_verifier"), Call::PcsVerifier),
+    (
+        ("transcript", "prover"),
+        Call::Prover(TranscriptCall::LowDegreeTest),
+    ),
+    (
+        ("transcript", "verifier"),
+        Call::Verifier(TranscriptCall::LowDegreeTest),
+    ),
+    (
+        ("transcript", "pcs_prover"),
+        Call::Prover(TranscriptCall::Opening),
+    ),
+    (
+        ("transcript", "pcs_verifier"),
+        Call::Verifier(TranscriptCall::Opening),
+    ),
     (("tree", "commit"), Call::Tree(TreeCall::Commit)),
     (
         ("tree", "open_multi_batch"),

@@ -31,10 +31,8 @@ fn make(rt: &HostRuntime, name: Name, call: &Call) -> Result<()> {
     match call {
         Call::Plain(call) => schemes::make::<Plain>(rt, name, call),
         Call::Hiding(call) => schemes::make::<Hiding>(rt, name, call),
-        Call::Prover => transcripts::begin::<Prover>(rt, name),
-        Call::Verifier => transcripts::begin::<Verifier>(rt, name),
-        Call::PcsProver => transcripts::begin_pcs::<Prover>(rt, name),
-        Call::PcsVerifier => transcripts::begin_pcs::<Verifier>(rt, name),
+        Call::Prover(call) => transcripts::begin::<Prover>(rt, name, call),
+        Call::Verifier(call) => transcripts::begin::<Verifier>(rt, name, call),
         Call::Tree(call) => tree::make(rt, name, call, &Sha256Mmcs::<BabyBear>::new()),
         Call::FromPlain => forms::tell_from_plain(rt, name),
         Call::Interpolate(call) => converse::interpolate(rt, name, call),

@@ -1,6 +1,6 @@
 //! What the calls are made on.
 
-ghost use Rattle.std.specs.Prelude.{◌≡◌, ◌^◌, IfOk, length};
+ghost use Rattle.std.specs.Prelude.{◌≡◌, ◌<◌, ◌≤◌, ◌^◌, IfOk, length};
 ghost use Rattle.p3_matrix.specs.Matrix.{rows, matrix_width};
 
 use crate::answer::{Fault, Result};
@@ -17,22 +17,15 @@ pub type Evaluations = Vec<(Domain, RowMajorMatrix<BabyBear>)>;
 
 /// `2^log_height` rows of this width, of powers of the generator.
 pub fn matrix(alloc: Global, log_height: usize, width: usize) -> Result<RowMajorMatrix<BabyBear>>
+    requires wide { 0 < width }
+    requires narrow { width ≤ 8 }
+    requires low { log_height ≤ 8 }
     ensures height { IfOk result (λ m. length (rows m) ≡ 2 ^ log_height) }
     ensures width { IfOk result (λ m. matrix_width m ≡ width) }
 {
-    if width == 0 || width > 8 || log_height > 8 {
-        return Err(Fault::Inputs);
-    }
     let (height, generator) = (1 << log_height, BabyBear::GENERATOR);
     let values = shifted_powers(alloc, generator, generator, height * width)?;
-    if values.len() % width != 0 {
-        return Err(Fault::Inputs);
-    }
-    let matrix = RowMajorMatrix::new(values, width);
-    if matrix.height() != height {
-        return Err(Fault::Inputs);
-    }
-    Ok(matrix)
+    Ok(RowMajorMatrix::new(values, width))
 }
 
 /// The coset of this shift of `2^log_size` points.

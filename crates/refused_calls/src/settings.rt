@@ -62,6 +62,8 @@ fn evaluation(
     extra: usize,
 ) -> Result<(Domain, RowMajorMatrix<BabyBear>)>
     requires height { log_height ≤ 8 }
+    requires wide { 0 < width }
+    requires narrow { width ≤ 8 }
     requires extra { extra ≤ 1 }
     ensures size { IfOk result (λ e. e.0.log_size ≡ log_height + extra) }
     ensures height { IfOk result (λ e. length (rows e.1) ≡ 2 ^ log_height) }

@@ -16,7 +16,6 @@ pub(crate) type Answer = Result<bool, Refusal<PcsFailure>>;
 pub(crate) type Counts = &'static [&'static [&'static [usize]]];
 
 /// How a transcript is run.
-#[derive(Clone, Copy)]
 pub(crate) enum Form {
     /// The claims alone are compared with those described.
     Claims,
@@ -28,7 +27,6 @@ pub(crate) enum Form {
 /// Bits of proof of work before the batching challenge, how many values are described and how many
 /// are claimed, the witnesses that the verifier is sent, and what it returns. It ends in the
 /// prover's state exactly where it draws the run.
-#[derive(Clone, Copy)]
 pub(crate) struct Case {
     pub name: &'static str,
     pub form: Form,
@@ -150,24 +148,22 @@ pub(crate) static CASES: [Case; 12] = [
 
 /// What is drawn and found behind so many bits, none or four.
 pub(crate) fn run_behind(bits: usize) -> PcsRun {
-    let test = Run {
-        beta: element([115_710_677, 823_049_067, 281_331_580, 1_749_275_461]),
-        indices: [6, 5, 3, 1],
-        commit_witness: BabyBear::from_u64(5),
-        query_witness: BabyBear::from_u64(11),
-    };
-    if bits == 0 {
-        PcsRun {
-            alpha: element([296_278_921, 1_153_280_944, 1_164_941_694, 716_605_729]),
-            batch_witness: None,
-            test,
-        }
+    let (alpha, batch_witness) = if bits == 0 {
+        let alpha = element([296_278_921, 1_153_280_944, 1_164_941_694, 716_605_729]);
+        (alpha, None)
     } else {
-        PcsRun {
-            alpha: element([1_893_109_911, 1_140_352_409, 1_569_219_815, 223_669_611]),
-            batch_witness: Some(BabyBear::from_u64(27)),
-            test,
-        }
+        let alpha = element([1_893_109_911, 1_140_352_409, 1_569_219_815, 223_669_611]);
+        (alpha, Some(BabyBear::from_u64(27)))
+    };
+    PcsRun {
+        alpha,
+        batch_witness,
+        test: Run {
+            beta: element([115_710_677, 823_049_067, 281_331_580, 1_749_275_461]),
+            indices: [6, 5, 3, 1],
+            commit_witness: BabyBear::from_u64(5),
+            query_witness: BabyBear::from_u64(11),
+        },
     }
 }
 

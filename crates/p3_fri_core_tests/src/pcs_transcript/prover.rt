@@ -2,7 +2,7 @@
 
 ghost use Rattle.std.specs.Prelude.{◌≡◌, ◌≤◌, length};
 
-use crate::pcs_transcript::cases::PcsRun;
+use crate::pcs_transcript::cases::{Case, Form, PcsRun};
 use crate::pcs_transcript::shapes::parameters;
 use crate::run::shape_of as test_of;
 use p3_challenger::Sha256Challenger;
@@ -12,20 +12,38 @@ use p3_mmcs::OpenedValues;
 use std::alloc::Global;
 use std::process::Abort;
 
-/// Whether the prover's steps, with nothing inside the bracket, draw and find what the run does
-/// before the test.
-pub(crate) fn proves_in_steps(
+/// Whether the prover's whole opening, with a test of one round, is the run; or whether its steps,
+/// with nothing inside the bracket, draw and find what the run does before the test.
+pub(crate) fn proves(
     rt: &impl Abort,
     alloc: Global,
     challenger: &mut Sha256Challenger,
-    bits: usize,
+    case: &Case,
     values: &OpenedValues<BabyBear4>,
+    final_poly: &[BabyBear4],
     run: &PcsRun,
 ) -> bool
-    requires bits { bits ≤ 63 }
+    requires bits { case.now.bits ≤ 63 }
+    requires constant { length final_poly.now ≡ 1 }
 {
-    let shape = PcsShape::from_opened_values(alloc, &parameters(bits), values);
+    let shape = PcsShape::from_opened_values(alloc, &parameters(case.bits), values);
     let shape = shape.expect(rt, "memory");
+    if let Form::Whole = case.form {
+        let test = test_of(rt, alloc, &[3], 2, 3);
+        let played = play_pcs(
+            alloc,
+            challenger,
+            shape,
+            values,
+            test,
+            &[[7u8; 32]],
+            final_poly,
+        );
+        let played = played.expect(rt, "the prover is refused");
+        return (played.alpha == run.alpha)
+            & (Some(played.batch_witness) == run.batch_witness)
+            & run.test.is_played(&played.test);
+    }
     let transcript = PcsProverTranscript::<Sha256Challenger, BabyBear, BabyBear4>::new(
         alloc, challenger, shape,
     );
@@ -37,34 +55,4 @@ pub(crate) fn proves_in_steps(
     transcript.end_delegate();
     transcript.finish();
     (alpha == run.alpha) & (witness == run.batch_witness)
-}
-
-/// Whether the prover's whole opening behind four bits, with a test of one round, is the run.
-pub(crate) fn proves_as_a_whole(
-    rt: &impl Abort,
-    alloc: Global,
-    challenger: &mut Sha256Challenger,
-    values: &OpenedValues<BabyBear4>,
-    final_poly: &[BabyBear4],
-    run: &PcsRun,
-) -> bool
-    requires constant { length final_poly.now ≡ 1 }
-{
-    let shape = PcsShape::from_opened_values(alloc, &parameters(4), values);
-    let shape = shape.expect(rt, "memory");
-    let test = test_of(rt, alloc, &[3], 2, 3);
-    let commitments = [[7u8; 32]];
-    let played = play_pcs(
-        alloc,
-        challenger,
-        shape,
-        values,
-        test,
-        &commitments,
-        final_poly,
-    );
-    let played = played.expect(rt, "the prover is refused");
-    (played.alpha == run.alpha)
-        & (Some(played.batch_witness) == run.batch_witness)
-        & run.test.is_played(&played.test)
 }

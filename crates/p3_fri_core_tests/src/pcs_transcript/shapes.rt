@@ -69,22 +69,17 @@ pub(crate) fn claims_of(rt: &impl Abort, alloc: Global, count: usize) -> Vec<Cla
     claims
 }
 
-/// A list of lists.
-fn nested(rt: &impl Abort, alloc: Global, lists: &[&[usize]]) -> Vec<Vec<usize>> {
-    let mut all = Vec::new(alloc);
-    for list in lists {
-        let list = Vec::from_slice(alloc, *list).expect(rt, "memory");
-        all.push(list).expect(rt, "memory");
-    }
-    all
-}
-
 /// A shape by its counts.
 pub(crate) fn shape_of(rt: &impl Abort, alloc: Global, counts: Counts) -> PcsShape {
     let mut claimed_evaluation_counts = Vec::new(alloc);
     for matrices in counts {
+        let mut of_matrices = Vec::new(alloc);
+        for points in *matrices {
+            let of_points = Vec::from_slice(alloc, *points).expect(rt, "memory");
+            of_matrices.push(of_points).expect(rt, "memory");
+        }
         claimed_evaluation_counts
-            .push(nested(rt, alloc, *matrices))
+            .push(of_matrices)
             .expect(rt, "memory");
     }
     PcsShape {
@@ -116,41 +111,32 @@ static GROUPINGS: [(&str, Counts, Counts); 3] = [
 ];
 
 /// Numbers of claimed values at one point of one matrix, and the numbers of their shape.
-static CLAIMED: [(usize, Counts); 4] = [
-    (0, &[]),
-    (1, &[&[&[1]]]),
-    (2, &[&[&[2]]]),
-    (3, &[&[&[3]]]),
+static CLAIMED: [(&str, usize, Counts); 4] = [
+    ("none claimed", 0, &[]),
+    ("one claimed", 1, &[&[&[1]]]),
+    ("two claimed", 2, &[&[&[2]]]),
+    ("three claimed", 3, &[&[&[3]]]),
 ];
-
-/// Whether so many claimed values have the shape of these counts.
-fn claims_have_shape(rt: &impl Abort, alloc: Global, claimed: usize, counts: Counts) -> bool {
-    let claims = claims_of(rt, alloc, claimed);
-    let shape = PcsShape::from_claims(alloc, &parameters(0), &claims).expect(rt, "memory");
-    shape == shape_of(rt, alloc, counts)
-}
-
-/// Whether a shape of three openings has six steps and is its clone.
-fn shapes_have_their_openings(rt: &impl Abort, alloc: Global) -> bool {
-    let shape = shape_of(rt, alloc, &[&[&[3, 1], &[]], &[&[2]]]);
-    let copy = shape.clone(alloc).expect(rt, "memory");
-    let pattern = shape
-        .pattern::<BabyBear, BabyBear4>(alloc)
-        .expect(rt, "memory");
-    (copy == shape) & (shape.num_openings() == 3) & (pattern.steps().len() == 6)
-}
 
 #[test]
 fn groupings_have_streams_of_their_own(rt: HostRuntime) {
+    let alloc = rt.alloc();
     for (name, one, other) in &GROUPINGS {
-        let one = stream_of(&rt, rt.alloc(), *one);
-        assert!(rt; one != stream_of(&rt, rt.alloc(), *other), "{name}");
+        if stream_of(&rt, alloc, *one) == stream_of(&rt, alloc, *other) {
+            rt.panic(*name);
+        }
     }
-    for (claimed, counts) in &CLAIMED {
-        assert!(rt;
-            claims_have_shape(&rt, rt.alloc(), *claimed, *counts),
-            "{claimed} claimed"
-        );
+    for (name, claimed, counts) in &CLAIMED {
+        let claims = claims_of(&rt, alloc, *claimed);
+        let shape = PcsShape::from_claims(alloc, &parameters(0), &claims).expect(&rt, "memory");
+        if shape != shape_of(&rt, alloc, *counts) {
+            rt.panic(*name);
+        }
     }
-    assert!(rt; shapes_have_their_openings(&rt, rt.alloc()));
+    // three openings are six steps
+    let shape = shape_of(&rt, alloc, &[&[&[3, 1], &[]], &[&[2]]]);
+    let copy = shape.clone(alloc).expect(&rt, "memory");
+    let pattern = shape.pattern::<BabyBear, BabyBear4>(alloc);
+    let num_steps = pattern.expect(&rt, "memory").steps().len();
+    assert!(rt; (copy == shape) & (shape.num_openings() == 3) & (num_steps == 6));
 }

@@ -2,9 +2,9 @@
 
 ghost use Rattle.std.specs.Prelude.{◌≤◌};
 
-use crate::pcs_transcript::cases::{Answer, Claim, Counts, PcsRun};
+use crate::pcs_transcript::cases::{Answer, Case, Claim, Counts, Form, PcsRun};
 use crate::pcs_transcript::shapes::{parameters, shape_of};
-use crate::run::shape_of as test_of;
+use crate::run::{shape_of as test_of, witness_of};
 use p3_challenger::Sha256Challenger;
 use p3_field::{BabyBear, BabyBear4};
 use p3_fri_core::pcs_transcript::{PcsFailure, PcsShape, PcsVerifierTranscript, replay_pcs};
@@ -34,28 +34,37 @@ pub(crate) fn compare(
     }
 }
 
-/// The verifier's steps, with nothing inside the bracket. The claims are those described.
-pub(crate) fn verify_in_steps(
+/// The verifier's whole opening, with a test of one round, or its steps, with nothing inside the
+/// bracket. The claims are those described.
+pub(crate) fn verify(
     rt: &impl Abort,
     alloc: Global,
     challenger: &mut Sha256Challenger,
-    bits: usize,
+    case: &Case,
     claims: &[Claim],
-    witness: Option<BabyBear>,
+    sent: FriMessages<'_, BabyBear, BabyBear4, [u8; 32]>,
     run: &PcsRun,
 ) -> Answer
-    requires bits { bits ≤ 63 }
+    requires bits { case.now.bits ≤ 63 }
 {
-    let shape = PcsShape::from_claims(alloc, &parameters(bits), claims);
+    let witness = witness_of(case.batch_witness);
+    let shape = PcsShape::from_claims(alloc, &parameters(case.bits), claims);
     let shape = shape.expect(rt, "memory");
-    let Ok(mut transcript) = PcsVerifierTranscript::<Sha256Challenger, BabyBear, BabyBear4>::new(
+    if let Form::Whole = case.form {
+        let test = test_of(rt, alloc, &[3], 2, 3);
+        return match replay_pcs(alloc, challenger, shape, claims, witness, test, sent) {
+            Ok(replayed) => Ok(
+                (replayed.alpha == run.alpha) & run.test.draws(&replayed.betas, &replayed.indices),
+            ),
+            Err(refusal) => Err(refusal),
+        };
+    }
+    let transcript = PcsVerifierTranscript::<Sha256Challenger, BabyBear, BabyBear4>::new(
         alloc, challenger, shape,
-    ) else {
-        rt.panic("memory");
-    };
-    let Ok(()) = transcript.claimed_openings(claims) else {
-        rt.panic("other claims are described");
-    };
+    );
+    let mut transcript = transcript.expect(rt, "memory");
+    let claimed = transcript.claimed_openings(claims);
+    claimed.expect(rt, "other claims are described");
     match transcript.batch_phase(witness) {
         Ok(alpha) => {
             let _lent = transcript.begin_delegate();
@@ -67,26 +76,5 @@ pub(crate) fn verify_in_steps(
             transcript.abort();
             Err(Refusal::Step(PcsFailure::Pcs(failure)))
         }
-    }
-}
-
-/// The verifier's whole opening behind four bits, with a test of one round.
-pub(crate) fn verify_as_a_whole(
-    rt: &impl Abort,
-    alloc: Global,
-    challenger: &mut Sha256Challenger,
-    claims: &[Claim],
-    witness: Option<BabyBear>,
-    sent: FriMessages<'_, BabyBear, BabyBear4, [u8; 32]>,
-    run: &PcsRun,
-) -> Answer {
-    let shape = PcsShape::from_claims(alloc, &parameters(4), claims);
-    let shape = shape.expect(rt, "memory");
-    let test = test_of(rt, alloc, &[3], 2, 3);
-    match replay_pcs(alloc, challenger, shape, claims, witness, test, sent) {
-        Ok(replayed) => Ok(
-            (replayed.alpha == run.alpha) & run.test.draws(&replayed.betas, &replayed.indices),
-        ),
-        Err(refusal) => Err(refusal),
     }
 }

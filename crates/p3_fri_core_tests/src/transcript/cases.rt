@@ -7,7 +7,6 @@ use p3_fri_core::transcript::{Refusal, TranscriptFailure};
 pub(crate) type Answer = Result<bool, Refusal<TranscriptFailure>>;
 
 /// How a transcript is run.
-#[derive(Clone, Copy)]
 pub(crate) enum Form {
     Steps,
     Whole,
@@ -26,7 +25,6 @@ const ELSEWHERE: End = (false, false);
 /// The shape of the verifier's transcript, what the verifier is sent, what it returns and where it
 /// ends. It is sent so many commitments, witnesses of the rounds, which are all the same, and
 /// coefficients of the final polynomial, which are all 5. The prover's transcript is the run.
-#[derive(Clone, Copy)]
 pub(crate) struct Case {
     pub name: &'static str,
     pub prover: Form,

@@ -1,30 +1,35 @@
-//! The verifier's side of a test, step by step and as a whole, and its seed alone.
+//! The verifier's side of a test, step by step and as a whole.
 
-ghost use Rattle.std.specs.Prelude.{◌≤◌};
+ghost use Rattle.std.specs.Prelude.{◌≡◌, ◌≤◌};
+ghost use Rattle.p3_fri_transcript.specs.Shapes.{fri_shape};
 
-use crate::run::{Run, shape_of};
-use crate::transcript::cases::{Answer, Case};
+use crate::run::Run;
+use crate::transcript::cases::{Answer, Form};
 use p3_challenger::Sha256Challenger;
-use p3_challenger::fs::Script;
 use p3_field::{BabyBear, BabyBear4};
-use p3_fri_core::transcript::{FriMessages, Refusal, VerifierTranscript, replay_fri};
+use p3_fri_core::transcript::{FriMessages, FriShape, Refusal, VerifierTranscript, replay_fri};
 use std::alloc::Global;
 use std::process::Abort;
 
-/// What the verifier's steps return in this case.
-pub(crate) fn verify_in_steps(
-    rt: &impl Abort,
+/// What the verifier returns, step by step or as a whole.
+pub(crate) fn verify(
     alloc: Global,
     challenger: &mut Sha256Challenger,
-    case: &Case,
+    form: &Form,
+    shape: FriShape,
     sent: FriMessages<'_, BabyBear, BabyBear4, [u8; 32]>,
     run: &Run,
 ) -> Answer
-    requires commit_bits { case.now.commit_pow_bits ≤ 63 }
-    requires query_bits { case.now.query_pow_bits ≤ 63 }
+    requires commit_bits { (fri_shape shape).commit_pow_bits ≤ 63 }
+    requires query_bits { (fri_shape shape).query_pow_bits ≤ 63 }
+    requires index_bits { (fri_shape shape).index_bits ≡ 3 }
 {
-    let (commit_bits, query_bits) = (case.commit_pow_bits, case.query_pow_bits);
-    let shape = shape_of(rt, alloc, case.log_arities, commit_bits, query_bits);
+    if let Form::Whole = form {
+        return match replay_fri(alloc, challenger, shape, sent) {
+            Ok(replayed) => Ok(run.draws(&replayed.betas, &replayed.indices)),
+            Err(refusal) => Err(refusal),
+        };
+    }
     let Ok(mut transcript) = VerifierTranscript::<Sha256Challenger, BabyBear, BabyBear4>::new(
         alloc, challenger, shape,
     ) else {
@@ -46,39 +51,4 @@ pub(crate) fn verify_in_steps(
             Err(Refusal::Step(failure))
         },
     }
-}
-
-/// What the verifier's whole transcript returns in this case.
-pub(crate) fn verify_as_a_whole(
-    rt: &impl Abort,
-    alloc: Global,
-    challenger: &mut Sha256Challenger,
-    case: &Case,
-    sent: FriMessages<'_, BabyBear, BabyBear4, [u8; 32]>,
-    run: &Run,
-) -> Answer
-    requires commit_bits { case.now.commit_pow_bits ≤ 63 }
-    requires query_bits { case.now.query_pow_bits ≤ 63 }
-{
-    let (commit_bits, query_bits) = (case.commit_pow_bits, case.query_pow_bits);
-    let shape = shape_of(rt, alloc, case.log_arities, commit_bits, query_bits);
-    match replay_fri(alloc, challenger, shape, sent) {
-        Ok(replayed) => Ok(run.draws(&replayed.betas, &replayed.indices)),
-        Err(refusal) => Err(refusal),
-    }
-}
-
-/// Leaves the challenger as the seed of the verifier's transcript leaves it.
-pub(crate) fn absorb_seed(
-    rt: &impl Abort,
-    alloc: Global,
-    challenger: &mut Sha256Challenger,
-    case: &Case,
-) {
-    let (commit_bits, query_bits) = (case.commit_pow_bits, case.query_pow_bits);
-    let shape = shape_of(rt, alloc, case.log_arities, commit_bits, query_bits);
-    let seed = shape
-        .seed::<BabyBear, BabyBear4>(alloc)
-        .expect(rt, "memory");
-    let _script = Script::start::<BabyBear, Sha256Challenger>(challenger, seed);
 }

@@ -43,7 +43,7 @@ pub(crate) fn is_masked(
     is_masked &= shown.width() == masked.shown;
     let mut numbers = masked.numbers.iter();
     for row in 0..whole.height() {
-        let is_between = row % 2 != 0 && masked.has_rows_between;
+        let is_between = (row % 2 != 0) & masked.has_rows_between;
         let width = if is_between { 0 } else { masked.width };
         for column in 0..whole.width() {
             let number = if column < width { numbers.next() } else { None };
@@ -57,8 +57,8 @@ pub(crate) fn is_masked(
                 },
             };
             is_masked &= found == wanted;
-            is_masked &= column >= masked.shown || shown.get(row, column) == wanted;
+            is_masked &= (column >= masked.shown) | (shown.get(row, column) == wanted);
         }
     }
-    is_masked && numbers.next().is_none()
+    is_masked & numbers.next().is_none()
 }

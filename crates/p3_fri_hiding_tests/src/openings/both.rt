@@ -75,5 +75,5 @@ pub(crate) fn are_both_accepted<P: Tested>(rt: &impl Abort, alloc: Global) -> bo
     );
     drop(requests);
     let verified = answer.expect(rt, "not accepted");
-    are_moved(&challenger, &verified.challenger) && private.is_opened() && !preprocessed.is_opened()
+    are_moved(&challenger, &verified.challenger) & private.is_opened() & !preprocessed.is_opened()
 }

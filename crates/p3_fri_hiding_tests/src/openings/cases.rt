@@ -3,15 +3,16 @@
 use crate::commitments::commit_to;
 use crate::lists::push;
 use crate::matrices::{POINT, cosets};
+use crate::openable::are_openable;
 use crate::openings::changes::{Change, change_claims, change_random};
-use crate::openings::requests::{Batches, Opening, open_each};
+use crate::openings::requests::{Batches, Opening, requests_of};
 use crate::openings::shapes::{ANY, Counts, First, are_opened_so};
-use crate::scheme::{Data, SMALL, Setting, VerifierError};
+use crate::scheme::{Data, Domain, SMALL, Setting, VerifierError};
 use crate::tested::Tested;
 use p3_challenger::Sha256Challenger;
 use p3_fri_masks::HidingFriProverError;
 use p3_pcs::KnownCommitment;
-use p3_test_openings::one::Opened;
+use p3_test_openings::one::{Opened, with_claims};
 use std::alloc::Global;
 use std::process::Abort;
 
@@ -58,7 +59,7 @@ pub(crate) const ACCEPTED: Asked = Asked {
 
 /// Whether both sides end in one state that isn't the first.
 pub(crate) fn are_moved(prover: &Sha256Challenger, verifier: &Sha256Challenger) -> bool {
-    *verifier == *prover && *prover != Sha256Challenger::new()
+    (*verifier == *prover) & (*prover != Sha256Challenger::new())
 }
 
 /// Whether the verifier's answer is as it is said. It ends as the prover where it accepts, and else
@@ -72,10 +73,10 @@ fn is_as_said(
     verifier: &Sha256Challenger,
 ) -> bool {
     let Err(refusal) = answer else {
-        return said == "accepted" && are_moved(prover, verifier);
+        return (said == "accepted") & are_moved(prover, verifier);
     };
     let text = format!(in alloc; "{refusal:?}").expect(rt, "memory");
-    text.as_str() == said && *verifier == Sha256Challenger::new()
+    (text.as_str() == said) & (*verifier == Sha256Challenger::new())
 }
 
 /// Whether the values of an opening are those that are wanted, and the verifier answers so to it
@@ -109,21 +110,57 @@ fn is_answered<P: Tested>(
         }
     };
     let is_as_said = is_as_said(rt, alloc, answer, asked.answer, prover, verifier);
-    is_as_said && has_random_values && are_opened_so(&values, asked.values, asked.firsts)
+    is_as_said & has_random_values & are_opened_so(&values, asked.values, asked.firsts)
 }
 
 /// Whether the data of each commitment counts as opened so.
 fn are_opened(data: &[Data], wanted: &[bool]) -> bool {
     let mut are_opened = data.len() == wanted.len();
-    for (held, is_opened) in data.iter().zip(wanted) {
-        are_opened &= held.is_opened() == *is_opened;
+    for index in 0..data.len() {
+        are_opened &= wanted.get(index) == Some(&data[index].is_opened());
     }
     are_opened
 }
 
-/// Whether each opening of batches in turn is as it is wanted, by challengers that are new before
-/// the first, and the data of each commitment counts as opened so. One that is refused leaves the
-/// data and the challenger as they were.
+/// Whether an opening of batches, and the verifier's answer to it, are as they are wanted. One that
+/// is refused leaves the challenger as it was.
+fn is_met<P: Tested>(
+    rt: &impl Abort,
+    scheme: &P,
+    alloc: Global,
+    batches: &Batches,
+    known: &[KnownCommitment<[u8; 32], Domain>],
+    data: &mut [Data],
+    asked: &Asked,
+    prover: &mut Sha256Challenger,
+    verifier: &mut Sha256Challenger,
+) -> bool
+    requires { P.IsOf batches.now.setting scheme.now }
+{
+    let mut requests = requests_of(rt, alloc, data, batches.each, asked.points);
+    let setting = batches.setting;
+    let codewords = setting.num_random_codewords;
+    if setting.num_queries == 0 || !are_openable(&requests, codewords, batches.is_preprocessed) {
+        rt.panic("this can't be opened");
+    }
+    let answer = if batches.is_preprocessed {
+        scheme.open_with_preprocessing(alloc, requests.as_mut_slice(), &mut *prover, Some(0))
+    } else {
+        scheme.open(alloc, requests.as_mut_slice(), &mut *prover)
+    };
+    match with_claims(alloc, known, &requests, answer) {
+        Ok(Ok(opened)) => {
+            is_answered::<P>(rt, alloc, asked, opened, &*prover, verifier) & asked.refusal.is_none()
+        }
+        Ok(Err(refusal)) => {
+            (asked.refusal == Some(refusal)) & (*prover == Sha256Challenger::new())
+        }
+        Err(_) => rt.panic("memory"),
+    }
+}
+
+/// Whether each opening of batches in turn is met, by challengers that are new before the first,
+/// and the data of each commitment counts as opened as it is said then.
 pub(crate) fn are_met<P: Tested>(
     rt: &impl Abort,
     alloc: Global,
@@ -131,19 +168,15 @@ pub(crate) fn are_met<P: Tested>(
     openings: &[Asked],
 ) -> bool {
     let setting = batches.setting;
-    if setting.num_queries == 0 {
-        rt.panic("no queries");
-    }
     let mut scheme = P::of(setting);
     let mut known = Vec::new(alloc);
     let mut data = Vec::new(alloc);
     for batch in batches.each {
         let committed = commit_to(rt, &mut scheme, alloc, setting, &batch.kind);
         let (commitment, held) = committed.expect(rt, "the commitment is refused");
-        let domains = cosets(rt, alloc, batch.domains);
         let of_batch = KnownCommitment {
             commitment,
-            domains,
+            domains: cosets(rt, alloc, batch.domains),
         };
         push(rt, &mut known, of_batch);
         push(rt, &mut data, held);
@@ -152,23 +185,17 @@ pub(crate) fn are_met<P: Tested>(
     let mut verifier = Sha256Challenger::new();
     let mut are_met = true;
     for asked in openings {
-        let answer = open_each(
+        are_met &= is_met(
             rt,
             &scheme,
             alloc,
             batches,
             &known,
             data.as_mut_slice(),
-            asked.points,
+            asked,
             &mut prover,
+            &mut verifier,
         );
-        are_met &= match answer {
-            Ok(opened) => {
-                is_answered::<P>(rt, alloc, asked, opened, &prover, &mut verifier)
-                    && asked.refusal.is_none()
-            }
-            Err(refusal) => asked.refusal == Some(refusal) && prover == Sha256Challenger::new(),
-        };
         are_met &= are_opened(&data, asked.is_opened);
     }
     are_met

@@ -30,34 +30,37 @@ pub(crate) enum Change {
 /// the private column.
 pub(crate) fn change_random(random: &mut OpenedValues<BabyBear4>, change: &Change) {
     match change {
-        Change::NoRandomValues => random.clear(),
-        Change::OneRound => random.truncate(1),
+        Change::NoRandomValues => return random.clear(),
+        Change::OneRound => return random.truncate(1),
         _ => {},
     }
     let round = match change {
         Change::OneValueMore => random.first_mut(),
         _ => random.last_mut(),
     };
-    if let Some(round) = round {
-        if matches!(change, Change::NoMatrices) {
-            round.clear();
-        }
-        if let Some(points) = round.first_mut() {
-            if matches!(change, Change::NoPoints) {
-                points.clear();
-            }
-            if let Some(values) = points.first_mut() {
-                match change {
-                    Change::OneValueLess => {
-                        let _ = values.pop();
-                    },
-                    Change::OneValueMore => {
-                        let _pushed = values.push(BabyBear4::ZERO).is_ok();
-                    },
-                    _ => {},
-                }
-            }
-        }
+    let Some(round) = round else {
+        return;
+    };
+    if let Change::NoMatrices = change {
+        return round.clear();
+    }
+    let Some(points) = round.first_mut() else {
+        return;
+    };
+    if let Change::NoPoints = change {
+        return points.clear();
+    }
+    let Some(values) = points.first_mut() else {
+        return;
+    };
+    match change {
+        Change::OneValueLess => {
+            let _ = values.pop();
+        },
+        Change::OneValueMore => {
+            let _pushed = values.push(BabyBear4::ZERO).is_ok();
+        },
+        _ => {},
     }
 }
 

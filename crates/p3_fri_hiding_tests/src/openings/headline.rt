@@ -20,7 +20,7 @@ pub(crate) fn is_column_accepted<P: Tested>(rt: &impl Abort, alloc: Global) -> b
     let column = evaluation(rt, alloc, &E_COLUMN, 2);
     let points = two(rt, alloc, element(POINT), element(OTHER_POINT));
     match commit_and_show(&mut scheme, alloc, column, points, &mut challenger) {
-        Ok(shown) => { shown.1.is_opened() && are_moved(&challenger, &shown.0.challenger) }
+        Ok(shown) => { shown.1.is_opened() & are_moved(&challenger, &shown.0.challenger) }
         Err(_) => rt.panic("not accepted"),
     }
 }

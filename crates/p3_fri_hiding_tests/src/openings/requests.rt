@@ -1,18 +1,13 @@
 //! Commitments of several kinds, and requests for them at the same points.
 
-ghost use Rattle.std.specs.Prelude.{◌<◌};
-
 use crate::kind::Kind;
 use crate::lists::push;
 use crate::matrices::element;
-use crate::openable::are_openable;
-use crate::scheme::{Data, Domain, Setting};
-use crate::tested::Tested;
+use crate::scheme::{Domain, Setting};
 use p3_challenger::Sha256Challenger;
 use p3_field::BabyBear4;
-use p3_fri_masks::HidingFriProverError;
-use p3_pcs::{KnownCommitment, OpeningRequest, Pcs};
-use p3_test_openings::one::{Opened, with_claims};
+use p3_pcs::{OpeningRequest, Pcs};
+use p3_test_openings::one::Opened;
 use std::alloc::Global;
 use std::process::Abort;
 
@@ -38,7 +33,7 @@ pub(crate) struct Batches {
 }
 
 /// Requests for the data of batches, each matrix at the points with these coefficients.
-fn requests_of<'a, D>(
+pub(crate) fn requests_of<'a, D>(
     rt: &impl Abort,
     alloc: Global,
     data: &'a mut [D],
@@ -62,34 +57,4 @@ fn requests_of<'a, D>(
         push(rt, &mut requests, request);
     }
     requests
-}
-
-/// The data of batches opened at these points, or why it isn't.
-pub(crate) fn open_each<P: Tested>(
-    rt: &impl Abort,
-    scheme: &P,
-    alloc: Global,
-    batches: &Batches,
-    known: &[KnownCommitment<[u8; 32], Domain>],
-    data: &mut [Data],
-    coefficients: &[[u64; 4]],
-    challenger: &mut Sha256Challenger,
-) -> Result<Opening<P>, HidingFriProverError>
-    requires of_setting { P.IsOf batches.now.setting scheme.now }
-    requires queries { 0 < batches.now.setting.num_queries }
-{
-    let mut requests = requests_of(rt, alloc, data, batches.each, coefficients);
-    let codewords = batches.setting.num_random_codewords;
-    if !are_openable(&requests, codewords, batches.is_preprocessed) {
-        rt.panic("this can't be opened");
-    }
-    let answer = if batches.is_preprocessed {
-        scheme.open_with_preprocessing(alloc, requests.as_mut_slice(), challenger, Some(0))
-    } else {
-        scheme.open(alloc, requests.as_mut_slice(), challenger)
-    };
-    match with_claims(alloc, known, &requests, answer) {
-        Ok(opened) => opened,
-        Err(_) => rt.panic("memory"),
-    }
 }

@@ -51,5 +51,5 @@ pub(crate) fn are_opened_so(
             }
         }
     }
-    are_so && firsts.next().is_none()
+    are_so & firsts.next().is_none()
 }

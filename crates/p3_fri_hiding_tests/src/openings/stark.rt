@@ -98,9 +98,9 @@ pub(crate) fn is_stark_served<P: Tested>(rt: &impl Abort, alloc: Global) -> bool
     let table = scheme
         .build_periodic_lde_table(alloc, &periodic, rows, points)
         .expect(rt, "no table");
-    let has_entries = table.height() == 4
-        && table.get(0, 0) == Some(BabyBear::from_u64(2_012_342_402))
-        && table.get(14, 0) == Some(BabyBear::from_u64(923_523));
+    let has_entries = (table.height() == 4)
+        & (table.get(0, 0) == Some(BabyBear::from_u64(2_012_342_402)))
+        & (table.get(14, 0) == Some(BabyBear::from_u64(923_523)));
     let mut challenger = Sha256Challenger::new();
     let columns = stark_columns(rt, alloc);
     let answer = open_stark_columns::<BabyBear4, Sha256Challenger, P>(
@@ -115,8 +115,8 @@ pub(crate) fn is_stark_served<P: Tested>(rt: &impl Abort, alloc: Global) -> bool
     let random = P::random_values(&mut opened.verified.proof);
     let has_random_values = are_opened_so(&*random, &RANDOM_COUNTS, &[]);
     has_entries
-        && has_random_values
-        && opened.known.len() == 4
-        && are_opened_so(&opened.verified.values, &COUNTS, &FIRSTS)
-        && are_moved(&challenger, &opened.verified.challenger)
+        & has_random_values
+        & (opened.known.len() == 4)
+        & are_opened_so(&opened.verified.values, &COUNTS, &FIRSTS)
+        & are_moved(&challenger, &opened.verified.challenger)
 }

@@ -50,9 +50,9 @@ pub(crate) fn is_named(
     match work {
         Some(phase) => {
             let unsolved = FriProverError::NoPowWitness { phase };
-            plain == Some(unsolved) && hiding == Some(HidingFriProverError::Fri(unsolved))
+            (plain == Some(unsolved)) & (hiding == Some(HidingFriProverError::Fri(unsolved)))
         }
-        None => plain.is_none() && hiding.is_none(),
+        None => plain.is_none() & hiding.is_none(),
     }
 }
 
