@@ -13,7 +13,7 @@ use Rattle.p3_fri_folding.specs.declared.error.FriProverError.{FriProverError}
 use Rattle.p3_fri_relation.specs.TallEnough.{IsTallEnough, HeightRefusal}
 use Rattle.p3_fri_openings.specs.declared.round.OpeningRound.{OpeningRound}
 use Rattle.p3_fri_openings.specs.First.{FirstAt}
-use Rattle.p3_fri_openings.specs.Rounds.{Asked, IsRound, ask, asked_in, log_height}
+use Rattle.p3_fri_openings.specs.Rounds.{Asked, ask, asked_in, log_height}
 use Rattle.p3_fri_openings.proofs.First.{first_at, one_more, to_the_end}
 use Rattle.p3_fri_masks.specs.declared.error.HidingFriProverError.{HidingFriProverError}
 use Rattle.p3_fri_masks.specs.declared.error.HidingFriProverError.TheVariants.{
@@ -75,13 +75,13 @@ module _ {F E : Type 0} (f : Fields F E) (p : Parameters) (r : ℕ) (a : Asked F
         (subst (λ (k : ℕ). IfErr tested (BudgetRefusal r q k height points)) d refuses)))
 
 -- going through the matrices of a round, with their points
-module _ {F E : Type 0} (adicity : ℕ) (round : OpeningRound F E) (are : IsRound adicity round)
-    (i : ℕ) where
+module _ {F E : Type 0} (round : OpeningRound F E)
+    (counts : length round.points.now ≡ length round.matrices.now) (i : ℕ) where
   module _ (m : RowMajorMatrix F) (points : Vec E Global) (below : i < length round.matrices.now)
       (m_is : m ≡ get_or round.matrices.now i m)
       (points_are : points ≡ get_or round.points.now i points) where
     points_below : i < length round.points.now
-    points_below = omega (arith, below, are.lists_of_points)
+    points_below = omega (arith, below, counts)
 
     lists_below : i < length (lists round.points.now)
     lists_below = omega (arith, points_below, length-map round.points.now (λ v. v.items))

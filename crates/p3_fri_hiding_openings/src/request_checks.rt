@@ -1,11 +1,10 @@
 //! Whether requests to a scheme that hides may be opened. No memory is taken.
 
 ghost use Rattle.std.specs.Prelude.{◌≡◌, All, MatchResult, map, length};
-ghost use Rattle.p3_pcs.specs.Requests.{AreOpenable, request};
+ghost use Rattle.p3_pcs.specs.Requests.{request};
 ghost use Rattle.p3_fri_relation.specs.Views.{parameters_of};
-ghost use Rattle.p3_fri_openings.specs.Rounds.{HasCoset, IsRound, ask, asked_in};
+ghost use Rattle.p3_fri_openings.specs.Rounds.{HasCoset, ask, asked_in};
 ghost use Rattle.p3_fri_openings.specs.Refusals.{HasPointsOff};
-ghost use Rattle.p3_fri_openings.specs.Held.{held_of};
 ghost use Rattle.p3_fri_opening_prover.specs.Refusals.{PointsRefusal, asked_of};
 ghost use Rattle.p3_fri_hiding_openings.specs.Requests.{inside};
 ghost use Rattle.p3_fri_hiding_openings.specs.Opening.{CanHide, MatrixRefusal, RoundRefusal};
@@ -56,7 +55,8 @@ fn check_round<F: TwoAdicField, EF: ExtensionField<F>, M>(
     params: &FriParameters<M>,
     round: &OpeningRound<'_, F, EF>,
 ) -> Result<(), HidingFriProverError>
-    requires round { IsRound F.TWO_ADICITY round.now }
+    requires points { length round.now.points.now ≡ length round.now.matrices.now }
+    requires cosets { All (HasCoset F.TWO_ADICITY) round.now.matrices.now }
     ensures { let fields = ⟦<EF as ChallengeField<F>>⟧.fields in
         let p = parameters_of params.now in
         MatchResult result (λ _. All (CanHide fields p num_random_codewords) (asked_in round.now))
@@ -81,8 +81,9 @@ fn check_matrices<F: TwoAdicField, EF: ExtensionField<F>, M, InputMmcs: Mmcs<F>>
     input_mmcs: &InputMmcs,
     requests: &[OpeningRequest<'_, HidingFriPcsProverData<InputMmcs::ProverData>, EF>],
 ) -> Result<(), HidingFriProverError>
-    requires openable { AreOpenable (λ d. All (HasCoset F.TWO_ADICITY) (InputMmcs.committed d))
-        (held_of ⟦<EF as ChallengeField<F>>⟧.fields InputMmcs.committed params.now.log_blowup)
+    requires cosets { All (λ r. All (HasCoset F.TWO_ADICITY) (InputMmcs.committed r.datum))
+        (map inside (map request requests.now)) }
+    requires points { All (λ r. length r.points ≡ length (InputMmcs.committed r.datum))
         (map inside (map request requests.now)) }
     ensures { let fields = ⟦<EF as ChallengeField<F>>⟧.fields in
         let p = parameters_of params.now in
@@ -143,8 +144,9 @@ pub(crate) fn check_requests<F: TwoAdicField, EF: ExtensionField<F>, M, InputMmc
     input_mmcs: &InputMmcs,
     requests: &[OpeningRequest<'_, HidingFriPcsProverData<InputMmcs::ProverData>, EF>],
 ) -> Result<(), HidingFriProverError>
-    requires openable { AreOpenable (λ d. All (HasCoset F.TWO_ADICITY) (InputMmcs.committed d))
-        (held_of ⟦<EF as ChallengeField<F>>⟧.fields InputMmcs.committed params.now.log_blowup)
+    requires cosets { All (λ r. All (HasCoset F.TWO_ADICITY) (InputMmcs.committed r.datum))
+        (map inside (map request requests.now)) }
+    requires points { All (λ r. length r.points ≡ length (InputMmcs.committed r.datum))
         (map inside (map request requests.now)) }
     ensures { let fields = ⟦<EF as ChallengeField<F>>⟧.fields in
         let p = parameters_of params.now in

@@ -47,7 +47,7 @@ fn push_combined<F: TwoAdicField, EF: Field>(
     ladder: &Ladder<EF>,
     matrix: &MatrixOpening<EF, TwoAdicMultiplicativeCoset<F>>,
 ) -> Result<(), AllocError>
-    requires { IsWithin (vec_len ladder.now.powers)
+    requires within { IsWithin (vec_len ladder.now.powers)
         (matrix_claim (λ domain. domain.log_size) matrix.now) }
     ensures { IfOk result (λ _. combined.new.items ≡ combined.old.items
         ++ map (λ z. val EF.ops z.values ladder.now.alpha)
@@ -65,7 +65,7 @@ fn combine_claim<F: TwoAdicField, EF: Field>(
     ladder: &Ladder<EF>,
     matrices: &[MatrixOpening<EF, TwoAdicMultiplicativeCoset<F>>],
 ) -> Result<Vec<EF>, AllocError>
-    requires { All (IsWithin (vec_len ladder.now.powers))
+    requires within { All (IsWithin (vec_len ladder.now.powers))
         (map (matrix_claim (λ domain. domain.log_size)) matrices.now) }
     ensures { IfOk result (λ combined. combined.items ≡ combined_values EF.ops ladder.now.alpha
         (map (matrix_claim (λ domain. domain.log_size)) matrices.now)) }

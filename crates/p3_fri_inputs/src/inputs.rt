@@ -35,7 +35,7 @@ fn list_sums<EF: Field>(
     heights: &[usize],
     sums: &[EF],
 ) -> Result<FriOpenings<EF>, AllocError>
-    requires { All (λ h. h < length sums.now) heights.now }
+    requires within { All (λ h. h < length sums.now) heights.now }
     ensures { IfOk result (λ openings. openings.items
         ≡ map (λ h. (h, slice_index_or sums.now h EF.ops.zero)) heights.now) }
 {
@@ -49,7 +49,7 @@ fn list_sums<EF: Field>(
 
 /// Whether the sum of the constants' log height, if a matrix has it, is zero.
 fn is_constant_zero<EF: Field>(has_constants: bool, sums: &[EF], log_blowup: usize) -> bool
-    requires { IsTrue has_constants → log_blowup < length sums.now }
+    requires within { IsTrue has_constants → log_blowup < length sums.now }
     ensures { IsTrue result ↔ (IsTrue has_constants →
         slice_index_or sums.now log_blowup EF.ops.zero ≡ EF.ops.zero) }
 {

@@ -43,7 +43,7 @@ fn claimed_dimensions<F: TwoAdicField, EF: Field>(
     matrices: &[MatrixOpening<EF, TwoAdicMultiplicativeCoset<F>>],
     log_blowup: usize,
 ) -> Result<Vec<Dimensions>, AllocError>
-    requires { All (λ m. log_height log_blowup m < 64)
+    requires heights { All (λ m. log_height log_blowup m < 64)
         (map (matrix_claim (λ domain. domain.log_size)) matrices.now) }
     ensures { IfOk result (λ dims. dims.items ≡ map (dimensions log_blowup)
         (map (matrix_claim (λ domain. domain.log_size)) matrices.now)) }

@@ -78,7 +78,7 @@ fn push_commitment<F: TwoAdicField, EF: ExtensionField<F>, Com>(
     log_blowup: usize,
     claim: &CommitmentOpening<EF, Com, TwoAdicMultiplicativeCoset<F>>,
 ) -> Result<Option<(usize, usize)>, AllocError>
-    requires { All (λ m. log_height log_blowup m < length read.now)
+    requires heights { All (λ m. log_height log_blowup m < length read.now)
         (claim_of (λ domain. domain.log_size) claim.now).matrices }
     ensures { let c = claim_of (λ domain. domain.log_size) claim.now in
         let x = λ (h : ℕ). EF.lift (slice_index_or read.now h F.ops.zero) in

@@ -230,6 +230,7 @@ impl<
     ///
     /// `NotPowerOfTwo` or `DoesNotDivide` of the first column whose length is refused, and
     /// `OutOfMemory` where all lengths fit.
+    #[tactic(auto, using(p3_field_core::proofs::IndexPowers::exponent_at_most))]
     fn build_periodic_lde_table(
         &self,
         alloc: Global,

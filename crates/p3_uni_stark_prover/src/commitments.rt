@@ -1,11 +1,12 @@
 //! The commitments that a prover makes before the point is drawn.
 
-ghost use Rattle.std.specs.Prelude.{◌≡◌, ◌≢◌, ◌≤◌, ◌+◌, ◌^◌, ℕ, length, IfOk, IfErr};
+ghost use Rattle.std.specs.Prelude.{◌≡◌, ◌≢◌, ◌≤◌, ◌+◌, ◌^◌, ℕ, [], ◌∷◌, length, IfOk, IfErr};
 ghost use Rattle.algebra.specs.Field.{pow};
 ghost use Rattle.p3_matrix.specs.Matrix.{rows, matrix_width};
 ghost use Rattle.p3_periodic.specs.Views.{rows_if_any as owned_rows};
 ghost use Rattle.p3_pcs.specs.Scheme.{AreKept};
 ghost use Rattle.p3_stark_pcs.specs.Scheme.{AreKeptStark};
+ghost use Rattle.p3_uni_stark_pcs.specs.Rooms.{AreChunksOf};
 ghost use Rattle.p3_uni_stark_phases.specs.Refusals.{EvaluationRefusal};
 ghost use Rattle.p3_uni_stark_verifier.specs.Chunks.{hiding_bits};
 ghost use Rattle.p3_uni_stark_prover.specs.Committed.{AreCommitted};
@@ -36,6 +37,27 @@ use p3_uni_stark_verifier::setting::StarkField;
 use p3_uni_stark_verifier::{Commitments, Statement};
 use std::alloc::Global;
 
+/// The domain on which the columns of a trace are committed to. The scheme has room for them there,
+/// and for random polynomials, also once it has committed twice.
+fn column_domain<
+    F: TwoAdicField + PrimeField64,
+    EF: ExtensionField<F>,
+    Com: Copy,
+    C,
+    P: TwoAdicStarkPcs<EF, C, TwoAdicMultiplicativeCoset<F>, Commitment = Com>,
+>(scheme: &P, log_height: usize, trace: &RowMajorMatrix<F>) -> TwoAdicMultiplicativeCoset<F>
+    requires height { length (rows trace.now) ≡ 2 ^ log_height }
+    requires room { log_height + hiding_bits P.ZK + P.log_blowup scheme.now ≤ F.TWO_ADICITY }
+    ensures shift { result.shift ≡ F.ops.one }
+    ensures size { result.log_size ≡ log_height + hiding_bits P.ZK }
+    ensures committable { (P.rules scheme.now).CanCommit ((result, trace.now) ∷ []) }
+    ensures randomizable { (first second : P) → P.Keeps first second → P.Keeps scheme.now first
+        → (P.stark_rules second).CanRandomize (result ∷ []) }
+{
+    let log_size = with_hiding(log_height, P::ZK);
+    subgroup::<F>(log_size)
+}
+
 /// The chunks of the quotient, by the committed columns' values on the coset.
 fn quotient_of<
     F: TwoAdicField + PackableField + PrimeField64,
@@ -59,11 +81,16 @@ fn quotient_of<
         ≡ prepared.now.log_height + prepared.now.log_num_chunks }
     requires shift { prepared.now.coset.shift ≡ F.GENERATOR }
     requires off { pow F.ops F.GENERATOR (2 ^ F.TWO_ADICITY) ≢ F.ops.one }
+    requires room { (chunks : _) → AreChunksOf ⟦<EF as StarkField<F>>⟧.fields (λ d. d.shift)
+        (λ d. d.log_size) prepared.now.log_height prepared.now.log_num_chunks chunks
+        → (P.stark_rules scheme.now).CanExtend chunks (length chunks) }
     ensures quotient { IfOk result (λ chunks. IsQuotientOn ⟦<EF as StarkField<F>>⟧.fields
         EF.coefficients (λ d. d.shift) (λ d. d.log_size) (P.rules scheme.now) P.embed P.point
         prepared.now.coset statement.now (owned_rows prepared.now.periodic) trace.now
         preprocessed.now prepared.now.log_height prepared.now.log_num_chunks alpha
         chunks.items) }
+    ensures extendable { IfOk result (λ chunks.
+        (P.stark_rules scheme.now).CanExtend chunks.items (length chunks.items)) }
     ensures refused { IfErr result (EvaluationRefusal P.EvaluationRefuses) }
 {
     let trace_rows = evaluate(scheme, alloc, trace, prepared.coset)?;
@@ -131,7 +158,7 @@ pub fn commit_columns<
 {
     let hides = P::ZK;
     let log_height = prepared.log_height;
-    let domain = subgroup::<F>(with_hiding(log_height, hides));
+    let domain = column_domain(&*scheme, log_height, &trace);
     let first = commit_trace(scheme, alloc, domain, trace)?;
     let hash = first.commitment;
     let alpha = begin::<F, EF, Com, C>(alloc, statement, log_height, hides, hash, challenger)?;

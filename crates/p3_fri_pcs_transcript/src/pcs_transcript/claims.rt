@@ -1,6 +1,6 @@
 //! Claims, compared with the described counts and absorbed.
 
-ghost use Rattle.std.specs.Prelude.{◌≡◌, ◌-◌, ◌^◌, ℕ, min, IfErr, OnOk, map, length};
+ghost use Rattle.std.specs.Prelude.{◌≡◌, IfErr, OnOk, map, length};
 ghost use Rattle.p3_challenger_fs.specs.Script.{remaining};
 ghost use Rattle.p3_fri_pcs_transcript.specs.Absorption.{ClaimsThen, Absorbs};
 ghost use Rattle.p3_fri_pcs_transcript.specs.Claims.{IsClaimFailure};
@@ -15,7 +15,7 @@ use p3_field_core::{ExtensionField, Field};
 use p3_mmcs::CommitmentOpening;
 
 /// Absorbs the claims in the order of commitments, matrices and points, each once its number of
-/// values is the next described one.
+/// values is the next described one. None was compared before.
 pub(super) fn absorb_claims<F: Field, EF: ExtensionField<F>, C: FieldChallenger<F>, Com, Domain>(
     script: &mut Script,
     challenger: &mut C,
@@ -23,15 +23,14 @@ pub(super) fn absorb_claims<F: Field, EF: ExtensionField<F>, C: FieldChallenger<
     claims: &[CommitmentOpening<EF, Com, Domain>],
 ) -> Result<(), PcsTranscriptFailure>
     requires next { ClaimsThen EF.DIMENSION (counts_left described.old) (remaining script.old) }
+    requires first { described.old.opening ≡ 0 }
     ensures compared { OnOk result
         (IsCompared described.old described.new (lists_of_claims claims.now)) }
     ensures absorbed { OnOk result
         (Absorbs C.observed EF.coefficients EF.DIMENSION script.old script.new
         challenger.old challenger.new (lists_of_claims claims.now)) }
-    ensures fault { IfErr result (λ e.
-        (from : ℕ) → described.old.opening ≡ min from (2 ^ 64 - 1) →
-        IsClaimFailure from (counts_left described.old)
-        (map length (lists_of_claims claims.now)) e) }
+    ensures fault { IfErr result (IsClaimFailure 0 (counts_left described.old)
+        (map length (lists_of_claims claims.now))) }
 {
     for claim in claims {
         for matrix in &claim.matrices {

@@ -9,6 +9,7 @@ use Rattle.p3_fri_relation.specs.Views.{parameters_of, proof_of}
 use Rattle.p3_fri_opening_prover.specs.Setting.{OpeningSetting, StandsOnCosets, held}
 use Rattle.p3_fri_opening_prover.specs.Opened.{IsOpened}
 use Rattle.p3_fri_opening_prover.specs.Refusals.{PassesChecks}
+use Rattle.p3_fri_opening_prover.proofs.Asked.{points_counted}
 use Rattle.p3_fri_two_adic.specs.Accepted.{two_adic}
 use Rattle.p3_fri_hiding_openings.specs.Halves.{kept_values}
 use Rattle.p3_fri_hiding_openings.specs.Requests.{inside, inner_request}
@@ -72,12 +73,19 @@ same : (g : Over) (c : After-mark_all g) → map request (map inner_request c.ma
     ≡ map inside (map request c.args.requests.now)
 same g c = inside_marked c.args.requests.now c.mark_all.new.requests c.mark_all.ensures
 
-pub check_requests-requires : goal.check_requests-requires
-check_requests-requires g c = record {
-  openable = openable_inside (fields_of g) g.InputMmcs.Mmcs.committed
-      c.args.params.now.log_blowup c.args.num_random_codewords c.args.preprocessing
-      (map request c.args.requests.now) c.requires.shape;
-}
+pub check_requests-requires-clause-cosets : goal.check_requests-requires-clause-cosets
+check_requests-requires-clause-cosets g c =
+    (openable_inside (fields_of g) g.InputMmcs.Mmcs.committed c.args.params.now.log_blowup
+    c.args.num_random_codewords c.args.preprocessing (map request c.args.requests.now)
+    c.requires.shape).data_openable
+
+pub check_requests-requires-clause-points : goal.check_requests-requires-clause-points
+check_requests-requires-clause-points g c =
+    points_counted (fields_of g) (parameters_of c.args.params.now) g.InputMmcs.Mmcs.committed
+    (map inside (map request c.args.requests.now))
+    (openable_inside (fields_of g) g.InputMmcs.Mmcs.committed c.args.params.now.log_blowup
+    c.args.num_random_codewords c.args.preprocessing (map request c.args.requests.now)
+    c.requires.shape).points
 
 pub returns-in_err-check_requests-clause-opened :
     goal.returns-in_err-check_requests-clause-opened

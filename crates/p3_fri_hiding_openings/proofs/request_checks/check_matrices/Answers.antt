@@ -1,14 +1,13 @@
-use Rattle.std.proofs.Common.{◌≡◌, All, length, map, ap₂, subst}
+use Rattle.std.proofs.Common.{◌≡◌, All, length, ap₂, subst}
 use Rattle.std.proofs.lemmas.Result.{err_from_is_err_and}
 use Rattle.algebra.specs.Nested.{lists}
 use Rattle.p3_pcs.specs.Claims.{zip_with}
-use Rattle.p3_pcs.specs.Requests.{request}
 use Rattle.p3_fri_relation.specs.Views.{parameters_of}
 use Rattle.p3_fri_openings.specs.Requests.{round_request, matrices_request}
-use Rattle.p3_fri_openings.specs.Rounds.{HasCoset, ask}
+use Rattle.p3_fri_openings.specs.Rounds.{HasCoset, IsRound, ask}
 use Rattle.p3_fri_opening_prover.specs.Refusals.{asked_of}
-use Rattle.p3_fri_opening_prover.proofs.Asked.{points_counted, round_here}
-use Rattle.p3_fri_hiding_openings.specs.Requests.{inside, inner_request}
+use Rattle.p3_fri_opening_prover.proofs.Asked.{round_here}
+use Rattle.p3_fri_hiding_openings.specs.Requests.{inner_request}
 use Rattle.p3_fri_hiding_openings.specs.Opening.{CanHide, RoundRefusal}
 use Rattle.p3_fri_hiding_openings.proofs.Inside.{inside_at, inside_more, inside_first, inside_end}
 use Rattle.p3_fri_hiding_openings.proofs.request_checks.check_matrices.Given.{Over}
@@ -24,23 +23,28 @@ same g c =
     ap₂ (λ ms zs. record { datum = ms; points = lists zs }) c.get_matrices.ensures
     c.deref.ensures.value
 
-pub check_round-requires : goal.check_round-requires
-check_round-requires g c =
+-- and may be opened
+is_round : (g : Over) (c : After-deref g) → IsRound g.F.TwoAdicField.TWO_ADICITY
+    (record { matrices = c.get_matrices.result; points = c.deref.result })
+is_round g c =
     let committed = g.InputMmcs.Mmcs.committed in
     let r = c.request-item.result in
     let requests = c.args.requests.now in
-    record {
-      round = round_here g.F.TwoAdicField.TWO_ADICITY committed
-          (record { matrices = c.get_matrices.result; points = c.deref.result })
-          (inner_request r) (same g (goal.at.check_round-requires g c).After-deref)
-          (inside_at requests c.loop-request.request-index r c.loop-request-test.true
-          c.request-item.is (λ r. length r.points ≡ length (committed r.datum))
-          (points_counted (fields_of g) (parameters_of c.args.params.now) committed
-          (map inside (map request requests)) c.requires.openable.points))
-          (inside_at requests c.loop-request.request-index r c.loop-request-test.true
-          c.request-item.is (λ r. All (HasCoset g.F.TwoAdicField.TWO_ADICITY) (committed r.datum))
-          c.requires.openable.data_openable);
-    }
+    round_here g.F.TwoAdicField.TWO_ADICITY committed
+    (record { matrices = c.get_matrices.result; points = c.deref.result }) (inner_request r)
+    (same g c)
+    (inside_at requests c.loop-request.request-index r c.loop-request-test.true c.request-item.is
+    (λ r. length r.points ≡ length (committed r.datum)) c.requires.points)
+    (inside_at requests c.loop-request.request-index r c.loop-request-test.true c.request-item.is
+    (λ r. All (HasCoset g.F.TwoAdicField.TWO_ADICITY) (committed r.datum)) c.requires.cosets)
+
+pub check_round-requires-clause-points : goal.check_round-requires-clause-points
+check_round-requires-clause-points g c =
+    (is_round g (goal.at.check_round-requires-clause-points g c).After-deref).lists_of_points
+
+pub check_round-requires-clause-cosets : goal.check_round-requires-clause-cosets
+check_round-requires-clause-cosets g c =
+    (is_round g (goal.at.check_round-requires-clause-cosets g c).After-deref).cosets
 
 pub returns-in_err-check_round : goal.returns-in_err-check_round
 returns-in_err-check_round g c =

@@ -3,8 +3,6 @@ use Rattle.std.proofs.lemmas.Result.{err_from_is_err_and}
 use Rattle.p3_pcs.specs.Requests.{request}
 use Rattle.p3_fri_relation.specs.Setting.{Fields}
 use Rattle.p3_fri_relation.specs.Views.{parameters_of}
-use Rattle.p3_fri_opening_prover.proofs.Asked.{points_counted}
-use Rattle.p3_fri_hiding_openings.specs.Requests.{inside}
 use Rattle.p3_fri_hiding_openings.proofs.Passed.{passes, matrix_refused, point_refused_as}
 use Rattle.p3_fri_hiding_openings.proofs.request_checks.check_requests.Given.{Over}
 use Rattle.p3_fri_hiding_openings.proofs.request_checks.check_requests.Goals as goal
@@ -20,16 +18,6 @@ fields_of g = record {
   two_adicity = g.F.TwoAdicField.TWO_ADICITY;
   shift = g.F.Field.GENERATOR;
 }
-
-pub check_points-requires-clause-cosets : goal.check_points-requires-clause-cosets
-check_points-requires-clause-cosets g c =
-    c.requires.openable.data_openable
-
-pub check_points-requires-clause-points : goal.check_points-requires-clause-points
-check_points-requires-clause-points g c =
-    points_counted (fields_of g) (parameters_of c.args.params.now)
-    g.InputMmcs.Mmcs.committed (map inside (map request c.args.requests.now))
-    c.requires.openable.points
 
 pub returns-in_err-check_matrices : goal.returns-in_err-check_matrices
 returns-in_err-check_matrices g c =
@@ -53,6 +41,4 @@ pub returns : goal.returns
 returns g c =
     passes (fields_of g) (parameters_of c.args.params.now) c.args.num_random_codewords
     g.InputMmcs.Mmcs.committed (map request c.args.requests.now)
-    (points_counted (fields_of g) (parameters_of c.args.params.now) g.InputMmcs.Mmcs.committed
-    (map inside (map request c.args.requests.now)) c.requires.openable.points)
-    c.in_ok-check_matrices.ensures c.in_ok-check_points.ensures
+    c.requires.points c.in_ok-check_matrices.ensures c.in_ok-check_points.ensures

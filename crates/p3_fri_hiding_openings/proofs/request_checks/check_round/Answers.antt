@@ -19,7 +19,7 @@ returns-in_err-check_matrix g c =
     let made = err_from_is_err_and c.from_residual.result c.from_residual.ensures.1 in
     rw (made.1, made.2) (record {
       matrix = c.loop-matrix.matrix;
-      first = asked_first g.F.TwoAdicField.TWO_ADICITY c.args.round.now c.requires.round
+      first = asked_first c.args.round.now c.requires.points
           c.loop-matrix.matrix m points c.loop-matrix-test.true
           c.index-round-matrix-in-loop-matrix.is c.index-round-matrix.is
           (CanHide (fields_of g) p r) (MatrixRefusal (fields_of g) p r e) c.loop-matrix.invariant
@@ -34,7 +34,7 @@ loop-matrix-preserved g c =
     let r = c.args.num_random_codewords in
     let slice = c.as_slice-points.ensures.value
     ∙ ap (λ v. v.items) (sym c.index-round-matrix.is) in
-    asked_more g.F.TwoAdicField.TWO_ADICITY c.args.round.now c.requires.round c.loop-matrix.matrix
+    asked_more c.args.round.now c.requires.points c.loop-matrix.matrix
     c.index-round-matrix-in-loop-matrix.result c.index-round-matrix.result
     c.loop-matrix-test.true c.index-round-matrix-in-loop-matrix.is c.index-round-matrix.is
     (CanHide (fields_of g) p r) c.loop-matrix.invariant
@@ -44,6 +44,6 @@ loop-matrix-preserved g c =
 
 pub returns : goal.returns
 returns g c =
-    asked_end g.F.TwoAdicField.TWO_ADICITY c.args.round.now c.requires.round c.loop-matrix.matrix
+    asked_end c.args.round.now c.requires.points c.loop-matrix.matrix
     (CanHide (fields_of g) (parameters_of c.args.params.now) c.args.num_random_codewords)
     c.loop-matrix-test.false c.loop-matrix.invariant

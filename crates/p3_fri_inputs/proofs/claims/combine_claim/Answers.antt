@@ -19,7 +19,10 @@ push_combined-requires g c =
     let k = c.loop-k.k in
     let r = c.index-matrices-k.result in
     let below : k < length items = c.loop-k-test.true in
-    all_mapped_at f (IsWithin c.args.ladder.now.powers.len) items c.requires k r below c.index-matrices-k.is
+    record {
+      within = all_mapped_at f (IsWithin c.args.ladder.now.powers.len) items c.requires.within k r
+          below c.index-matrices-k.is;
+    }
 
 pub loop-k-preserved : goal.loop-k-preserved
 loop-k-preserved g c =

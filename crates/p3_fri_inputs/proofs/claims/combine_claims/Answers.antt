@@ -24,8 +24,10 @@ combine_claim-requires g c =
     let e = claim_of size it in
     let is_c = entry_of_map (claim_of size) claims i it below is in
     let items = c.deref.ensures.value ∙ ap (λ x. x.matrices.items) (sym is) in
-    subst (λ xs. All (IsWithin c.args.ladder.now.powers.len) (map (matrix_claim size) xs)) (sym items)
-    (all_of_one (IsWithin c.args.ladder.now.powers.len) cs c.requires i e here is_c)
+    record {
+      within = subst (λ xs. All (IsWithin c.args.ladder.now.powers.len) (map (matrix_claim size) xs))
+          (sym items) (all_of_one (IsWithin c.args.ladder.now.powers.len) cs c.requires i e here is_c);
+    }
 
 pub loop-batch-preserved : goal.loop-batch-preserved
 loop-batch-preserved g c =

@@ -15,7 +15,7 @@ combine-requires g c =
     let z = c.index.result.now in
     let below : k < length items = omega (arith, c.args.matrix.now.points.ok.0) in
     let p = c.args.ladder.now.powers.len in
-    let at = all_mapped_at point_claim (λ y. length y.values ≤ p) items c.requires k z below
+    let at = all_mapped_at point_claim (λ y. length y.values ≤ p) items c.requires.within k z below
     c.index.ensures in
     omega (arith, at, ap length c.deref.ensures.value)
 

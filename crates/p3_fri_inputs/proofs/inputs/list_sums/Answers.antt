@@ -15,7 +15,7 @@ loop-k-preserved g c =
     let heights = c.args.heights.now in
     let k = c.loop-k.k in
     let h = get_or heights k 0 in
-    let there : h < length sums = c.requires k 0 c.loop-k-test.true in
+    let there : h < length sums = c.requires.within k 0 c.loop-k-test.true in
     mapped_more (λ h. (h, get_or sums h zero)) heights k h c.loop-k.openings.items
     c.push.new.self.items c.loop-k-test.true (get_or_default heights k 0 h c.loop-k-test.true)
     c.loop-k.invariant

@@ -66,10 +66,12 @@ listed_within g c =
     (λ k m l. omega (arith, (c.requires.readable k m l).height))
 
 pub is_constant_zero-requires : goal.is_constant_zero-requires
-is_constant_zero-requires g c has =
-    let within = constants_within g
-    (goal.at.is_constant_zero-requires g c).After-has_height-has_constants has in
-    omega (arith, within, c.in_ok-sums.ensures.count, c.deref.ensures.len)
+is_constant_zero-requires g c = record {
+  within = λ has.
+      let within = constants_within g
+      (goal.at.is_constant_zero-requires g c).After-has_height-has_constants has in
+      omega (arith, within, c.in_ok-sums.ensures.count, c.deref.ensures.len);
+}
 
 pub returns-then-not-is_constant_zero : goal.returns-then-not-is_constant_zero
 returns-then-not-is_constant_zero g c position inverses =
@@ -95,10 +97,12 @@ list_sums-requires g c =
     let sums = c.deref-2.result.now in
     let count : s.log_global_max_height + 1 ≡ length sums =
     omega (arith, c.in_ok-sums.ensures.count, c.deref-2.ensures.len) in
-    subst (All (λ h. h < length sums)) (sym c.requires.heights)
-    (subst (λ n. All (λ h. h < n) (heights_of s.log_blowup
-    (matrices_of (claims_of (λ domain. domain.log_size) s.claims.now)))) count
-    (listed_within g (goal.at.list_sums-requires g c).In_ok-sums))
+    record {
+      within = subst (All (λ h. h < length sums)) (sym c.requires.heights)
+          (subst (λ n. All (λ h. h < n) (heights_of s.log_blowup
+          (matrices_of (claims_of (λ domain. domain.log_size) s.claims.now)))) count
+          (listed_within g (goal.at.list_sums-requires g c).In_ok-sums));
+    }
 
 pub returns : goal.returns
 returns g c position inverses =

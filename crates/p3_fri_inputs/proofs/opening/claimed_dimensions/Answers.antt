@@ -18,7 +18,7 @@ is_small : (g : Over) (c : After-index-matrices-k-in-loop-k g)
     (matrix_claim (λ domain. domain.log_size) c.index-matrices-k-in-loop-k.result) < 64
 is_small g c =
     all_mapped_at (matrix_claim (λ domain. domain.log_size))
-    (λ m. log_height c.args.log_blowup m < 64) c.args.matrices.now c.requires c.loop-k.k
+    (λ m. log_height c.args.log_blowup m < 64) c.args.matrices.now c.requires.heights c.loop-k.k
     c.index-matrices-k-in-loop-k.result (omega arith) c.index-matrices-k-in-loop-k.is
 
 pub overflow_add-height : goal.overflow_add-height

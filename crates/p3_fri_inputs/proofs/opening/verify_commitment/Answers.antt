@@ -106,14 +106,16 @@ returns-in-Some g c =
 pub claimed_dimensions-requires : goal.claimed_dimensions-requires
 claimed_dimensions-requires g c =
     let within = heights g (goal.at.claimed_dimensions-requires g c).In_default in
-    subst (λ xs. All (λ m. log_height c.args.setting.now.log_blowup m < 64)
-    (map (matrix_claim (λ domain. domain.log_size)) xs)) (sym c.deref-2.ensures.value)
-    (λ k m l. omega (
-      arith,
-      within k m l,
-      c.requires.within_two_adicity,
-      g.met.F.TwoAdicField.two_adicity_law,
-    ))
+    record {
+      heights = subst (λ xs. All (λ m. log_height c.args.setting.now.log_blowup m < 64)
+          (map (matrix_claim (λ domain. domain.log_size)) xs)) (sym c.deref-2.ensures.value)
+          (λ k m l. omega (
+            arith,
+            within k m l,
+            c.requires.within_two_adicity,
+            g.met.F.TwoAdicField.two_adicity_law,
+          ));
+    }
 
 pub opened_indices-requires-clause-heights : goal.opened_indices-requires-clause-heights
 opened_indices-requires-clause-heights g c =

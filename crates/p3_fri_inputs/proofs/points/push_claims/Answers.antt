@@ -26,7 +26,10 @@ push_commitment-requires g c =
     let here : i < length cs = omega (arith, below, length-map claims (claim_of size)) in
     let e = claim_of size it in
     let is_c = entry_of_map (claim_of size) claims i it below is in
-    all_of_one (λ m. log_height c.args.log_blowup m < length c.args.read.now) cs c.requires i e here is_c
+    record {
+      heights = all_of_one (λ m. log_height c.args.log_blowup m < length c.args.read.now) cs
+          c.requires i e here is_c;
+    }
 
 pub returns-in-Some : goal.returns-in-Some
 returns-in-Some g c =

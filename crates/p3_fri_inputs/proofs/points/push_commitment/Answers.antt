@@ -23,7 +23,7 @@ is_read : (g : Over) (c : After-index-matrix g)
 is_read g c =
     all_mapped_at (matrix_claim (λ domain. domain.log_size))
     (λ m. log_height c.args.log_blowup m < length c.args.read.now)
-    c.args.claim.now.matrices.items c.requires c.loop-k.k c.index-matrix.result.now
+    c.args.claim.now.matrices.items c.requires.heights c.loop-k.k c.index-matrix.result.now
     (omega (arith, c.args.claim.now.matrices.ok.0)) c.index-matrix.ensures
 
 pub overflow_add-x : goal.overflow_add-x

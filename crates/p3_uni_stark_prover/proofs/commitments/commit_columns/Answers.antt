@@ -1,4 +1,4 @@
-use Rattle.std.proofs.Common.{◌≡◌, ◌≤◌, ◌+◌, ◌<◌, ℕ, List, [], ◌∷◌, length, subst, refl, ap, ◌∙◌, arith}
+use Rattle.std.proofs.Common.{◌≡◌, ◌≤◌, ◌+◌, ℕ, List, [], ◌∷◌, length, subst, refl, ◌∙◌, arith}
 use Rattle.p3_challenger_core.specs.Run.{Moves, moves}
 use Rattle.p3_field_core.specs.Basis.{unit_vector}
 use Rattle.p3_field_core.specs.declared.coset.TwoAdicMultiplicativeCoset.{
@@ -63,14 +63,6 @@ abbrev IsColumn : (g : Over) → (k : ℕ) → Coset g → Type 0
 IsColumn g k x = (x.shift ≡ g.F.Field.ops.one)
     × (x.log_size ≡ k + hiding_bits g.P.UnivariateStarkPcs.ZK)
 
--- the domain that is made is that subgroup
-named : (g : Over) (k n : ℕ) (zk : _) → zk ≡ g.P.UnivariateStarkPcs.ZK → n ≡ k + hiding_bits zk
-    → (x : Coset g) → x.shift ≡ g.F.Field.ONE → x.log_size ≡ n → IsColumn g k x
-named g k n zk is counted x one size = (
-  one ∙ g.met.F.Field.one_law,
-  size ∙ counted ∙ ap (λ b. k + hiding_bits b) is,
-)
-
 -- the scheme has room
 room_of : (g : Over) (s : g.row.P.Denot) (k n log : ℕ)
     → n ≡ log + hiding_bits g.P.UnivariateStarkPcs.ZK → k + n ≤ g.F.TwoAdicField.TWO_ADICITY
@@ -80,31 +72,6 @@ room_of : (g : Over) (s : g.row.P.Denot) (k n log : ℕ)
     (g.P.Pcs.rules s) (g.P.UnivariateStarkPcs.stark_rules s) k log
 room_of g s k n log counted within room = g.met.P.TwoAdicStarkPcs.room_law s k log
     (subst (λ m. k + m ≤ g.F.TwoAdicField.TWO_ADICITY) counted within) room
-
-pub with_hiding-requires : goal.with_hiding-requires
-with_hiding-requires g c =
-    let within = c.requires.prepared.1.within in
-    let few = g.met.F.TwoAdicField.two_adicity_law in
-    let small : c.args.prepared.now.log_height < 64 = omega (arith, within, few) in
-    omega (arith, small)
-
-pub subgroup-domain-requires : goal.subgroup-domain-requires
-subgroup-domain-requires g c =
-    let within = c.requires.prepared.1.within in
-    let counted = c.requires.prepared.1.num_chunks in
-    let is = c.with_hiding.ensures ∙ ap (λ b. c.args.prepared.now.log_height + hiding_bits b)
-    c.ZK-hides.ensures in
-    record { within_two_adicity = omega (arith, within, counted, is) }
-
-pub commit_trace-requires : goal.commit_trace-requires
-commit_trace-requires g c =
-    let p = c.requires.prepared.1 in
-    let room = room_of g c.args.scheme.now c.args.prepared.now.log_height
-    c.args.prepared.now.log_num_chunks c.requires.prepared.0 p.num_chunks p.within c.requires.room in
-    let is = named g c.args.prepared.now.log_height c.with_hiding.result c.ZK-hides.result c.ZK-hides.ensures
-    c.with_hiding.ensures c.subgroup-domain.result c.subgroup-domain.ensures.shift
-    c.subgroup-domain.ensures.size in
-    record { room = room.trace c.subgroup-domain.result c.args.trace is.1 c.requires.height }
 
 pub returns-in_err-first-clause-kept : goal.returns-in_err-first-clause-kept
 returns-in_err-first-clause-kept g c = g.met.P.Pcs.keeps_law c.args.scheme.now
@@ -225,9 +192,8 @@ quotient_of-requires-clause-readings g c =
     (g.met.P.Pcs.rules_law s) (g.met.P.UnivariateStarkPcs.rows_law s) k low
     (g.met.P.UnivariateStarkPcs.stark_law s) c.args.prepared.now.coset
     c.args.prepared.now.coset.log_size refl c.args.statement.now c.requires.statement
-    c.subgroup-domain.result
-    (named g k c.with_hiding.result c.ZK-hides.result c.ZK-hides.ensures c.with_hiding.ensures
-    c.subgroup-domain.result c.subgroup-domain.ensures.shift c.subgroup-domain.ensures.size)
+    c.column_domain-domain.result
+    (c.column_domain-domain.ensures.shift, c.column_domain-domain.ensures.size)
     c.args.trace c.requires.height c.requires.width c.in_ok-first.first.commitment
     c.in_ok-first.first.prover_data c.in_ok-first.ensures.trace c.args.preprocessed
     (held_then g c.args.scheme.now s c.commit_trace.ensures.kept k
@@ -244,47 +210,27 @@ quotient_of-requires-clause-shift g c = c.requires.prepared.1.shift_is
 pub quotient_of-requires-clause-off : goal.quotient_of-requires-clause-off
 quotient_of-requires-clause-off g c = c.requires.prepared.1.off
 
-pub commit_chunks-requires : goal.commit_chunks-requires
-commit_chunks-requires g c =
+pub quotient_of-requires-clause-room : goal.quotient_of-requires-clause-room
+quotient_of-requires-clause-room g c chunks pairs =
+    let s = c.args.scheme.now in
     let p = c.requires.prepared.1 in
     let k = c.args.prepared.now.log_height in
-    let room = room_of g c.args.scheme.now k c.args.prepared.now.log_num_chunks
-    c.requires.prepared.0 p.num_chunks p.within c.requires.room in
-    let kept = g.met.P.UnivariateStarkPcs.keeps_stark_law c.args.scheme.now
-    c.commit_trace.new.scheme c.commit_trace.ensures.kept in
-    record {
-      room = kept.extendable c.in_ok-chunks.chunks.items (length c.in_ok-chunks.chunks.items)
-          (extendable (fields_of g) (shift_of g) (log_size_of g) g.P.UnivariateStarkPcs.ZK
-          (g.P.Pcs.rules c.args.scheme.now)
-          (g.P.UnivariateStarkPcs.stark_rules c.args.scheme.now) k c.requires.prepared.0
-          c.args.prepared.now.log_num_chunks p.num_chunks room c.in_ok-chunks.chunks.items
-          c.in_ok-chunks.ensures.quotient.pairs);
-    }
-
-pub commit_random-requires : goal.commit_random-requires
-commit_random-requires g c =
-    let p = c.requires.prepared.1 in
-    let k = c.args.prepared.now.log_height in
-    let law = g.met.P.UnivariateStarkPcs.keeps_stark_law in
-    let room = room_of g c.args.scheme.now k c.args.prepared.now.log_num_chunks
-    c.requires.prepared.0 p.num_chunks p.within c.requires.room in
-    let first = law c.args.scheme.now c.commit_trace.new.scheme c.commit_trace.ensures.kept in
-    let second = law c.commit_trace.new.scheme c.commit_chunks.new.scheme
-    c.commit_chunks.ensures.kept in
-    let is = named g k c.with_hiding.result c.ZK-hides.result c.ZK-hides.ensures c.with_hiding.ensures
-    c.subgroup-domain.result c.subgroup-domain.ensures.shift c.subgroup-domain.ensures.size in
-    record {
-      room = second.randomizable (c.subgroup-domain.result ∷ [])
-          (first.randomizable (c.subgroup-domain.result ∷ [])
-          (room.random c.subgroup-domain.result is.1));
-    }
+    let d = c.args.prepared.now.log_num_chunks in
+    let kept = g.met.P.UnivariateStarkPcs.keeps_stark_law s c.commit_trace.new.scheme
+    c.commit_trace.ensures.kept in
+    kept.extendable chunks (length chunks) (extendable (fields_of g) (shift_of g) (log_size_of g)
+    g.P.UnivariateStarkPcs.ZK (g.P.Pcs.rules s) (g.P.UnivariateStarkPcs.stark_rules s) k
+    c.requires.prepared.0 d p.num_chunks (room_of g s k d c.requires.prepared.0 p.num_chunks
+    p.within c.requires.room) chunks pairs)
 
 pub returns-in_err-first-clause-refused : goal.returns-in_err-first-clause-refused
 returns-in_err-first-clause-refused g c =
     let k = c.args.prepared.now.log_height in
-    let domain = c.subgroup-domain.result in
-    let is = named g k c.with_hiding.result c.ZK-hides.result c.ZK-hides.ensures c.with_hiding.ensures
-    domain c.subgroup-domain.ensures.shift c.subgroup-domain.ensures.size in
+    let domain = c.column_domain-domain.result in
+    let is : IsColumn g k domain = (
+      c.column_domain-domain.ensures.shift,
+      c.column_domain-domain.ensures.size,
+    ) in
     handed_on c.from_residual.result _
     (TraceRefusal ((g.P.Pcs.rules c.args.scheme.now).CommitRefuses ((domain, c.args.trace) ∷ [])))
     (CommitRefusal (fields_of g) (shift_of g) (log_size_of g) g.P.UnivariateStarkPcs.ZK
@@ -330,11 +276,13 @@ returns-in_err-second-clause-refused g c =
 pub returns-in_err-found-clause-refused : goal.returns-in_err-found-clause-refused
 returns-in_err-found-clause-refused g c =
     let k = c.args.prepared.now.log_height in
-    let domain = c.subgroup-domain.result in
+    let domain = c.column_domain-domain.result in
     let rules = g.P.UnivariateStarkPcs.stark_rules in
     let law = g.met.P.UnivariateStarkPcs.keeps_stark_law in
-    let is = named g k c.with_hiding.result c.ZK-hides.result c.ZK-hides.ensures c.with_hiding.ensures
-    domain c.subgroup-domain.ensures.shift c.subgroup-domain.ensures.size in
+    let is : IsColumn g k domain = (
+      c.column_domain-domain.ensures.shift,
+      c.column_domain-domain.ensures.size,
+    ) in
     handed_on c.from_residual-in_err-found.result _
     (RandomizationRefusal ((rules c.commit_chunks.new.scheme).RandomizationRefuses (domain ∷ [])))
     (CommitRefusal (fields_of g) (shift_of g) (log_size_of g) g.P.UnivariateStarkPcs.ZK
@@ -352,7 +300,6 @@ returns-in_err-found-clause-refused g c =
 
 pub returns-clause-committed : goal.returns-clause-committed
 returns-clause-committed g c =
-    let p = c.requires.prepared.1 in
     let k = c.args.prepared.now.log_height in
     let s = c.args.scheme.now in
     let t = c.commit_trace.new.scheme in
@@ -361,14 +308,8 @@ returns-clause-committed g c =
     let rules = g.P.Pcs.rules in
     let stark = g.P.UnivariateStarkPcs.stark_rules in
     let chunks = c.in_ok-chunks.chunks.items in
-    let room = room_of g s k c.args.prepared.now.log_num_chunks c.requires.prepared.0 p.num_chunks
-    p.within c.requires.room in
-    let first = g.met.P.UnivariateStarkPcs.keeps_stark_law s t c.commit_trace.ensures.kept in
     let second = g.met.P.UnivariateStarkPcs.keeps_stark_law t u c.commit_chunks.ensures.kept in
-    let can = second.extendable chunks (length chunks) (first.extendable chunks (length chunks)
-    (extendable (fields_of g) (shift_of g) (log_size_of g) g.P.UnivariateStarkPcs.ZK (rules s)
-    (stark s) k c.requires.prepared.0 c.args.prepared.now.log_num_chunks p.num_chunks room chunks
-    c.in_ok-chunks.ensures.quotient.pairs)) in
+    let can = second.extendable chunks (length chunks) c.in_ok-chunks.ensures.extendable in
     all_committed (fields_of g) g.EF.ExtensionField.coefficients (moves_of g) (shift_of g)
     (log_size_of g) g.P.UnivariateStarkPcs.ZK g.P.UnivariateStarkPcs.embed
     g.P.UnivariateStarkPcs.point g.P.UnivariateStarkPcs.recombined
@@ -383,9 +324,8 @@ returns-clause-committed g c =
     c.in_ok-first.first.commitment c.args.challenger.now
     ≡ record { value = c.in_ok-alpha.alpha; state = c.begin.new.challenger })
     c.ZK-hides.ensures c.in_ok-alpha.ensures.drawn)
-    c.subgroup-domain.result
-    (named g k c.with_hiding.result c.ZK-hides.result c.ZK-hides.ensures c.with_hiding.ensures
-    c.subgroup-domain.result c.subgroup-domain.ensures.shift c.subgroup-domain.ensures.size)
+    c.column_domain-domain.result
+    (c.column_domain-domain.ensures.shift, c.column_domain-domain.ensures.size)
     c.in_ok-first.first.prover_data c.in_ok-first.ensures.trace c.args.preprocessed
     (held_then g s t c.commit_trace.ensures.kept k
     c.args.statement.now.air.now.layout.preprocessed_width c.args.statement.now.preprocessed

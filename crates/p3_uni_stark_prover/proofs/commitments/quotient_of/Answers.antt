@@ -65,6 +65,10 @@ returns-clause-quotient g c = record {
       c.args.prepared.now.coset.shift c.requires.shift;
 }
 
+pub returns-clause-extendable : goal.returns-clause-extendable
+returns-clause-extendable g c = c.requires.room c.in_ok-chunks.chunks.items
+    c.in_ok-chunks.ensures.domains
+
 -- of what is answered no refusal is said
 pub returns-clause-refused : goal.returns-clause-refused
 returns-clause-refused g c = tt
@@ -72,4 +76,8 @@ returns-clause-refused g c = tt
 -- where nothing is answered nothing is said of the answer
 pub returns-in_err-chunks-clause-quotient : goal.returns-in_err-chunks-clause-quotient
 returns-in_err-chunks-clause-quotient g c =
+    IfOk-from_err c.from_residual-in_err-chunks.result _ c.from_residual-in_err-chunks.ensures.0
+
+pub returns-in_err-chunks-clause-extendable : goal.returns-in_err-chunks-clause-extendable
+returns-in_err-chunks-clause-extendable g c =
     IfOk-from_err c.from_residual-in_err-chunks.result _ c.from_residual-in_err-chunks.ensures.0

@@ -22,12 +22,6 @@ fields_of g = record {
   shift = g.F.Field.GENERATOR;
 }
 
-pub commit_evaluations-requires : goal.commit_evaluations-requires
-commit_evaluations-requires g c = record {
-  fits = all_fit g.F.TwoAdicField.TWO_ADICITY c.args.self.now.fri.log_blowup (λ d. d.log_size)
-      c.args.evaluations.items c.requires.heights c.requires.within;
-}
-
 pub returns-clause-words : goal.returns-clause-words
 returns-clause-words g c =
     subst (λ t. AreExtended (fields_of g) (λ d. d.shift) (λ d. d.log_size)

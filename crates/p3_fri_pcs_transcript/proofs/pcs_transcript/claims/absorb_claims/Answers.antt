@@ -33,7 +33,7 @@ returns-in-Err-clause-fault g c =
     fault_after c.args.described.now c.loop-point.described (first ++ second ++ third) (values ∷ []) (after_point ++ (after_matrix ++ after_claim)) (lists_of_claims claims) c.in-Err.failure
     (part_within _ (first ++ second) (claimed_lists_at_points points) (after_matrix ++ after_claim) third (values ∷ []) after_point
     (part_within _ first (claimed_lists_in_matrices matrices) after_claim second (claimed_lists_at_points points) after_matrix claim matrix) point)
-    c.loop-point.invariant.compared c.in-Err.ensures.fault
+    c.loop-point.invariant.compared c.in-Err.ensures.fault 0 c.requires.first
 
 pub loop-point-preserved : goal.loop-point-preserved
 loop-point-preserved g c =

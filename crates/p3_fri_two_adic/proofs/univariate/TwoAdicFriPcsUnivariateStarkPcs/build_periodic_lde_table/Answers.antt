@@ -1,13 +1,7 @@
-use Rattle.std.proofs.Common.{refl}
 use Rattle.p3_field_core.specs.Coset.{coset_point}
-use Rattle.p3_dft.proofs.Batches.{exponent_within}
 use Rattle.p3_periodic.specs.Values.{IsColumnValue}
 use Rattle.p3_fri_two_adic.proofs.Tabulated.{tabulated_by_sizes}
 use Rattle.p3_fri_two_adic.proofs.univariate.TwoAdicFriPcsUnivariateStarkPcs.build_periodic_lde_table.Goals as goal
-
-pub build_periodic_lde_table_two_adic-requires : goal.build_periodic_lde_table_two_adic-requires
-build_periodic_lde_table_two_adic-requires g c =
-    exponent_within c.args.trace_domain.log_size c.args.quotient_domain.log_size _ refl c.requires.larger
 
 pub returns-clause-table : goal.returns-clause-table
 returns-clause-table g c =

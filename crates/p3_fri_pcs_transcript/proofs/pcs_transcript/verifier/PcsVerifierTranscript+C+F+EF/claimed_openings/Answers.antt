@@ -11,18 +11,15 @@ use Rattle.p3_fri_pcs_transcript.proofs.Comparisons.{fault_refused}
 use Rattle.p3_fri_pcs_transcript.proofs.Widths.{claims_counted}
 use Rattle.p3_fri_pcs_transcript.proofs.pcs_transcript.verifier.PcsVerifierTranscript+C+F+EF.claimed_openings.Goals as goal
 
-pub absorb_claims-requires : goal.absorb_claims-requires
+pub absorb_claims-requires-clause-next : goal.absorb_claims-requires-clause-next
 unfolding pcs_shape
-absorb_claims-requires g c =
+absorb_claims-requires-clause-next g c =
     let d = g.EF.ExtensionField.DIMENSION in
-    let others = batch_left d (pcs_shape c.args.self.now.shape) in
-    record {
-      next = (
-        others,
-        c.requires.no_step_played
-            ∙ ap (λ counts. claim_turns d counts ++ others) (sym (c.new-described.ensures.counts ∙ ap (λ commitments. widths (nested commitments)) c.deref.ensures.value)),
-      );
-    }
+    let others = batch_left d (pcs_shape c.args.self.now.shape) in (
+      others,
+      c.requires.no_step_played
+          ∙ ap (λ counts. claim_turns d counts ++ others) (sym (c.new-described.ensures.counts ∙ ap (λ commitments. widths (nested commitments)) c.deref.ensures.value)),
+    )
 
 pub returns-in-Ok-clause-passes : goal.returns-in-Ok-clause-passes
 unfolding pcs_shape
@@ -54,7 +51,7 @@ returns-in-Err-clause-fault g c =
     subst (λ (counts : List ℕ). IsClaimFailure 0 (widths (pcs_shape c.args.self.now.shape).counts) counts c.in-Err.failure) (sym (claims_counted c.args.claims.now))
     (subst (λ (counts : List ℕ). IsClaimFailure 0 counts claimed c.in-Err.failure)
     (c.new-described.ensures.counts ∙ ap (λ commitments. widths (nested commitments)) c.deref.ensures.value)
-    (c.in-Err.ensures.fault 0 c.new-described.ensures.place))
+    c.in-Err.ensures.fault)
 
 pub returns-in-Err-clause-passes : goal.returns-in-Err-clause-passes
 unfolding pcs_shape
