@@ -12,7 +12,7 @@ use Rattle.fri_statement.specs.Hiding.{hiding_absorbed}
 use Rattle.fri_statement.specs.Setting.{SchemeFields}
 use Rattle.fri_records.specs.declared.records.BatchClaims.{BatchClaims}
 use Rattle.fri_records.specs.declared.fault.VerifyError.{VerifyError}
-use Rattle.fri_requests.specs.Verdicts.{IsAcceptedBy}
+use Rattle.fri_verification.specs.Verdicts.{IsAcceptedBy}
 use Rattle.fri_flat.specs.declared.hiding_forms.HidingStatement.{HidingStatement}
 use Rattle.fri_flat.specs.HidingAnswers.{IsAcceptedHiding}
 

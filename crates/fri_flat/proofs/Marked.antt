@@ -4,7 +4,7 @@ use Rattle.std.proofs.Common.{refl, ap, arith, true, false, Option, Some, None}
 use Rattle.algebra.proofs.Lists.{Each, each_from_All, All_from_each}
 use Rattle.p3_stark_pcs.specs.Preprocessing.{ArePreprocessedAt}
 use Rattle.fri_records.specs.declared.records.Batch.{Batch}
-use Rattle.fri_requests.specs.Preprocessing.{NamesPreprocessed}
+use Rattle.fri_commitments.specs.Preprocessing.{NamesPreprocessed}
 
 abbrev IsPlain : Batch → Type 0
 IsPlain b = b.preprocessed ≡ false

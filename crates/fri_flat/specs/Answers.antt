@@ -11,10 +11,10 @@ use Rattle.fri_statement.specs.Context.{challenge_of}
 use Rattle.fri_statement.specs.Setting.{SchemeFields, prime_fields}
 use Rattle.fri_records.specs.declared.records.Request.{Request}
 use Rattle.fri_requests.specs.Accepted.{IsAccepted}
-use Rattle.fri_requests.specs.Claims.{batch_listed}
+use Rattle.fri_numbers.specs.Claims.{batch_listed}
 use Rattle.fri_requests.specs.Commitments.{IsCommitmentTo}
-use Rattle.fri_requests.specs.Numbers.{extension_numbers}
-use Rattle.fri_requests.specs.Openings.{IsOpened}
+use Rattle.fri_numbers.specs.Numbers.{extension_numbers}
+use Rattle.fri_requests.specs.Opened.{IsOpened}
 use Rattle.fri_flat.specs.declared.statement.Statement.{Statement}
 use Rattle.fri_flat.specs.Flat.{numbers, request, IsRequest, statement, IsStatement, answer}
 use Rattle.fri_flat.specs.Layouts.{layout_of}

@@ -4,7 +4,7 @@ use Rattle.fri_records.specs.declared.records.Matrix.{Matrix}
 use Rattle.fri_records.specs.declared.records.Batch.{Batch}
 use Rattle.fri_flat.specs.declared.kept.Asked.{Asked}
 use Rattle.fri_flat.specs.declared.layout.Layout.{Layout}
-use Rattle.fri_requests.specs.Bound.{IsContext}
+use Rattle.fri_verification.specs.Bound.{IsContext}
 use Rattle.fri_flat.specs.Flat.{words, number, elements, list, context, IsElement}
 
 module _ (l : Layout) where

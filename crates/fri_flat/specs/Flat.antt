@@ -7,7 +7,7 @@ use Rattle.std.specs.Result.{result_unwrap_or}
 use Rattle.std.specs.declared.vec.Vec.{Vec}
 use Rattle.std.specs.declared.string.String.{String}
 use Rattle.hex.specs.Hex.{decode_sized}
-use Rattle.fri_requests.specs.Bound.{IsContext, context_listed}
+use Rattle.fri_verification.specs.Bound.{IsContext, context_listed}
 use Rattle.fri_records.specs.declared.records.Parameters.{Parameters}
 use Rattle.fri_records.specs.declared.records.Matrix.{Matrix}
 use Rattle.fri_records.specs.declared.records.Batch.{Batch}

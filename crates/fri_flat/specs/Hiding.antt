@@ -8,7 +8,7 @@ use Rattle.fri_flat.specs.declared.hiding_forms.HidingStatement.{HidingStatement
 use Rattle.fri_flat.specs.declared.layout.Layout.{Layout}
 use Rattle.fri_flat.specs.Flat.{word, numbers, list, element, IsElement, context, parameters}
 use Rattle.fri_flat.specs.Flat.{request, IsRequest, batch_claims, IsBatchClaims, proof, IsProof}
-use Rattle.fri_requests.specs.Bound.{IsContext}
+use Rattle.fri_verification.specs.Bound.{IsContext}
 
 -- an index, or the greatest number of four bytes where there is none
 abbrev pub index : Option ℕ → List ℕ

@@ -10,10 +10,11 @@ use Rattle.p3_fri_plain.specs.Views.{hiding_listed}
 use Rattle.fri_statement.specs.Hiding.{hiding_absorbed}
 use Rattle.fri_statement.specs.Setting.{SchemeFields}
 use Rattle.fri_records.specs.declared.records.Request.{Request}
-use Rattle.fri_requests.specs.declared.masking.Masking.{Masking}
-use Rattle.fri_requests.specs.Preprocessing.{NamesPreprocessed}
-use Rattle.fri_requests.specs.Verdicts.{IsMadeWith, IsMadeFor, IsSchemeOf, IsAcceptedBy}
-use Rattle.fri_requests.specs.Verdicts.{AreCommitments, AreOpenings}
+use Rattle.fri_commitments.specs.declared.masking.Masking.{Masking}
+use Rattle.fri_commitments.specs.Preprocessing.{NamesPreprocessed}
+use Rattle.fri_verification.specs.Verdicts.{IsMadeWith, IsMadeFor, IsSchemeOf, IsAcceptedBy}
+use Rattle.fri_commitments.specs.Outcomes.{AreCommitments}
+use Rattle.fri_opening.specs.Openings.{AreOpenings}
 use Rattle.fri_flat.specs.declared.hiding_forms.HidingRequest.{HidingRequest}
 use Rattle.fri_flat.specs.declared.hiding_forms.HidingStatement.{HidingStatement}
 use Rattle.fri_flat.specs.Flat.{numbers}

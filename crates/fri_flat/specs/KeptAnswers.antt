@@ -4,12 +4,12 @@ use Rattle.std.specs.List.{AllZip}
 use Rattle.fri_records.specs.declared.records.Parameters.{Parameters}
 use Rattle.fri_records.specs.declared.records.Batch.{Batch}
 use Rattle.fri_statement.specs.Setting.{SchemeFields}
-use Rattle.fri_requests.specs.declared.committed.Committed.{Committed}
-use Rattle.fri_requests.specs.Claims.{batch_listed}
+use Rattle.fri_commitments.specs.declared.committed.Committed.{Committed}
+use Rattle.fri_numbers.specs.Claims.{batch_listed}
 use Rattle.fri_requests.specs.Commitments.{IsCommitmentTo}
-use Rattle.fri_requests.specs.Keeping.{HasCommitted, AskFor, batches_at}
-use Rattle.fri_requests.specs.Openings.{IsOpened}
-use Rattle.fri_requests.specs.Requests.{InputData}
+use Rattle.fri_prover.specs.Keeping.{HasCommitted, AskFor, batches_at}
+use Rattle.fri_requests.specs.Opened.{IsOpened}
+use Rattle.fri_requests.specs.PlainRequests.{InputData}
 use Rattle.fri_flat.specs.declared.kept.Asked.{Asked}
 use Rattle.fri_flat.specs.declared.statement.Statement.{Statement}
 use Rattle.fri_flat.specs.Answers.{IsAcceptedStatement}

@@ -2,14 +2,15 @@
 //! numbers: no list of the numbers is made.
 
 ghost use Rattle.std.specs.Prelude.{◌≡◌, ◌++◌, IfOk};
-ghost use Rattle.fri_requests.specs.Elements.{batch_of, record_of};
+ghost use Rattle.fri_numbers.specs.Elements.{batch_of, record_of};
 ghost use Rattle.fri_flat.specs.Flat.{matrix, IsMatrix, batch, IsBatch};
 
 use crate::fault::ReadError;
 use crate::layout::Layout;
 use crate::reader::Reader;
 use crate::records::value_count;
-use fri_requests::{Domain, ElementMatrix};
+use fri_prover::ElementMatrix;
+use fri_requests::Domain;
 use p3_field::PrimeField64;
 use std::alloc::Global;
 

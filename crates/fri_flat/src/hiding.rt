@@ -7,7 +7,7 @@
 ghost use Rattle.std.specs.Prelude.{◌≡◌, IfOk, length, false};
 ghost use Rattle.std.specs.List.{All};
 ghost use Rattle.p3_fri_plain.specs.Views.{hiding_seen};
-ghost use Rattle.fri_requests.specs.Verdicts.{IsMadeFor};
+ghost use Rattle.fri_verification.specs.Verdicts.{IsMadeFor};
 ghost use Rattle.fri_flat.specs.Flat.{element_size};
 ghost use Rattle.fri_flat.specs.Layouts.{layout_of};
 ghost use Rattle.fri_flat.specs.HidingAnswers.{IsMarked, IsAcceptedHiding};

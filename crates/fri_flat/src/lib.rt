@@ -35,4 +35,5 @@ mod writer;
 pub use crate::calls::{challenge, commit, open, verify};
 pub use crate::failure::{ANSWERED, Failure, MALFORMED, OUT_OF_MEMORY, REFUSED};
 pub use crate::kept::{commit_kept, open_kept, prover};
-pub use fri_requests::{Prover, SchemeField};
+pub use fri_prover::Prover;
+pub use fri_requests::SchemeField;

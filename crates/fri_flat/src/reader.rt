@@ -4,7 +4,7 @@ ghost use Rattle.std.specs.Prelude.{◌≡◌, ◌<◌, ◌≤◌, ◌*◌, ◌+
 ghost use Rattle.std.specs.Prelude.{string_bytes, true, map};
 ghost use Rattle.std.specs.List.{All};
 ghost use Rattle.hex.specs.Hex.{decode_of};
-ghost use Rattle.fri_requests.specs.Bound.{IsContext};
+ghost use Rattle.fri_verification.specs.Bound.{IsContext};
 ghost use Rattle.std.specs.Int.{to_le_bytes, w64};
 ghost use Rattle.fri_flat.specs.Flat.{word, number, numbers, elements, digest, context};
 ghost use Rattle.fri_flat.specs.Flat.{IsElement, number_size};

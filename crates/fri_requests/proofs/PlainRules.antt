@@ -16,21 +16,20 @@ use Rattle.p3_fri_two_adic.specs.Held.{Extends}
 use Rattle.fri_records.specs.declared.records.Matrix.{Matrix}
 use Rattle.fri_records.specs.declared.records.Batch.{Batch}
 use Rattle.fri_statement.specs.Setting.{SchemeFields}
-use Rattle.fri_requests.specs.declared.committed.Committed.{Committed}
-use Rattle.fri_requests.specs.Claims.{BatchNumbers}
-use Rattle.fri_requests.specs.declared.reading.ListedBatch.{ListedBatch}
-use Rattle.fri_requests.specs.Committed.{domain_of, domain_committed, IsListed, Lists, MayOpen, CommitsTo}
-use Rattle.fri_requests.specs.Committed.{KeepsRead, IsCommittedTo, Keeps, RefusesMatrices}
-use Rattle.fri_requests.specs.Keeping.{IsKept}
+use Rattle.fri_commitments.specs.declared.committed.Committed.{Committed}
+use Rattle.fri_numbers.specs.Claims.{BatchNumbers}
+use Rattle.fri_numbers.specs.Listed.{IsListed}
+use Rattle.fri_commitments.specs.Committed.{MayOpen}
+use Rattle.fri_commitments.specs.Committed.{IsCommittedTo, Keeps, RefusesMatrices}
 use Rattle.fri_requests.specs.Commitments.{IsCommitmentTo}
 use Rattle.fri_requests.specs.Matrices.{held_listed}
-use Rattle.fri_requests.specs.Numbers.{extension_of, extension_numbers}
-use Rattle.fri_requests.specs.Openings.{values_opened, matrix_opened, opened_numbers, IsOpenedBy, IsOpened}
-use Rattle.fri_requests.specs.Openings.{request_for, requests_for}
-use Rattle.fri_requests.specs.Refusals.{RefusesBatch}
-use Rattle.fri_requests.specs.Requests.{InputData, KeepsBatch}
-use Rattle.fri_requests.proofs.Kept.{pairs_same, through}
-use Rattle.fri_requests.proofs.Listed.{HaveNumbers}
+use Rattle.fri_numbers.specs.Numbers.{extension_of, extension_numbers}
+use Rattle.fri_opening.specs.Openings.{values_opened, matrix_opened, IsOpenedBy}
+use Rattle.fri_requests.specs.Opened.{opened_numbers, IsOpened}
+use Rattle.fri_opening.specs.Openings.{request_for, requests_for}
+use Rattle.fri_commitments.specs.Refusals.{RefusesBatch}
+use Rattle.fri_requests.specs.PlainRequests.{InputData, KeepsBatch}
+use Rattle.fri_numbers.proofs.Listed.{HaveNumbers}
 use Rattle.fri_requests.proofs.Polynomials.{held_same}
 
 module _ {F E : Type 0} (f : SchemeFields F E) where
@@ -150,7 +149,7 @@ module _ {F E : Type 0} (f : SchemeFields F E) (numbered : HaveNumbers f) (input
   opens false d h = plain.openable d h
 
   -- what is kept of a batch, of the data alone
-  keeps_of : (commitment : List ℕ) (d : Data) (batch : Batch)
+  pub keeps_of : (commitment : List ℕ) (d : Data) (batch : Batch)
       → IsCommittedTo f r t false shift_of log_size_of commitment d batch → KeepsBatch f input_length b d batch
   keeps_of commitment d batch h = record {
     openable = opens batch.preprocessed d h.commits.openable;
@@ -162,22 +161,6 @@ module _ {F E : Type 0} (f : SchemeFields F E) (numbered : HaveNumbers f) (input
   keeps_batch : (c : Committed Data Dom) (batch : Batch) → Keeps f r t false shift_of log_size_of c batch
       → KeepsBatch f input_length b c.data batch
   keeps_batch c batch h = keeps_of c.commitment c.data batch h.committed
-
-  -- what was kept of a batch that was read is kept of the batch
-  pub is_kept : (c : Committed Data Dom) (read : ListedBatch F Dom) (batch : Batch) → KeepsRead r t c read
-      → Lists f false shift_of log_size_of read batch → IsKept f input_length shift_of log_size_of b c batch
-  is_kept c read batch k l =
-      let es = read.evaluations.items in record {
-        root = sym k.commits.commits ∙ plain.commitments c.data;
-        keeps = keeps_of c.commitment c.data batch (record {
-          evaluations = es;
-          listed = l.evaluations;
-          commits = subst (λ p. CommitsTo r t c.commitment c.data p es) l.preprocessed k.commits;
-        });
-        domains = through (λ d. domain_of f (shift_of d) (log_size_of d)) (λ e. e.0) es c.domains.items _ k.domains
-            (sym (pairs_same (IsListed f false shift_of log_size_of) (λ e. domain_of f (shift_of e.0) (log_size_of e.0))
-            (λ m. domain_committed false m.domain) (λ e m h. h.domain) es batch.matrices.items l.evaluations));
-      }
 
   pub plain_kept : (cs : List (Committed Data Dom)) (batches : List Batch)
       → AllZip (Keeps f r t false shift_of log_size_of) cs batches → AllZip (KeepsBatch f input_length b) (map (λ c. c.data) cs) batches

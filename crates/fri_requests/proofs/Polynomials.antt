@@ -11,8 +11,8 @@ use Rattle.p3_fri_two_adic.specs.Chunks.{polynomials_on}
 use Rattle.fri_records.specs.declared.records.Matrix.{Matrix}
 use Rattle.fri_statement.specs.Setting.{SchemeFields}
 use Rattle.fri_requests.specs.Matrices.{held_listed}
-use Rattle.fri_requests.specs.Numbers.{element}
-use Rattle.fri_requests.proofs.Listed.{HaveNumbers}
+use Rattle.fri_numbers.specs.Numbers.{element}
+use Rattle.fri_numbers.proofs.Listed.{HaveNumbers}
 
 module _ {F E : Type 0} (f : SchemeFields F E) (numbered : HaveNumbers f) where
   -- what is held of rows on a domain

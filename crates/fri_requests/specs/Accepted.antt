@@ -13,9 +13,10 @@ use Rattle.fri_records.specs.declared.records.Parameters.{Parameters}
 use Rattle.fri_records.specs.declared.records.BatchClaims.{BatchClaims}
 use Rattle.fri_records.specs.Records.{parameters_in}
 use Rattle.fri_statement.specs.Setting.{SchemeFields, prime_fields, sha256_moves, sha256_setting}
-use Rattle.fri_requests.specs.Bound.{state_bound}
-use Rattle.fri_requests.specs.Numbers.{extension_numbers}
-use Rattle.fri_requests.specs.Statements.{IsStatement, claims_listed}
+use Rattle.fri_verification.specs.Bound.{state_bound}
+use Rattle.fri_numbers.specs.Numbers.{extension_numbers}
+use Rattle.fri_verification.specs.Statements.{IsStatement}
+use Rattle.fri_numbers.specs.Claimed.{claims_listed}
 
 -- over these fields, of a context, as a hex text
 module _ {F E X Y : Type 0} (f : SchemeFields F E) (context : List ℕ) (parameters : Parameters)

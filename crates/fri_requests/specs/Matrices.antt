@@ -7,7 +7,7 @@ use Rattle.p3_pcs.specs.Requests.{Held}
 use Rattle.p3_fri_extensions.specs.Extension.{polynomial_on}
 use Rattle.fri_records.specs.declared.records.Matrix.{Matrix}
 use Rattle.fri_statement.specs.Setting.{SchemeFields}
-use Rattle.fri_requests.specs.Numbers.{element}
+use Rattle.fri_numbers.specs.Numbers.{element}
 
 module _ {F E : Type 0} (f : SchemeFields F E) (m : Matrix) where
   -- column `j`, from the first row down (zero is the default of that look-up, which no column

@@ -16,31 +16,13 @@
 //! for a proof of work of `b` bits, at most all elements of the field.
 #![tactic(auto)]
 
-mod claims;
-mod committed;
-mod elements;
-mod lending;
-mod masking;
-mod matrices;
-mod naming;
-mod opening;
 pub mod plain;
-mod prepared;
-mod prover;
-mod reading;
-mod refusal;
-mod statement;
-mod verification;
 
-pub use crate::committed::commit;
-pub use crate::masking::Masking;
-pub use crate::matrices::ElementMatrix;
-pub use crate::opening::{Opening, open};
-pub use crate::prover::Prover;
-pub use crate::statement::challenge;
-pub use crate::verification::verify;
+pub use fri_commitments::{Masking, commit};
+pub use fri_opening::{Opening, open};
 pub use fri_records::{
     Batch, BatchClaims, Domain, Fault, Matrix, MatrixClaims, Misfit, Parameters, Place,
     PointClaims, ReadError, Record, Request, RequestError, VerifierError, VerifyError,
 };
 pub use fri_schemes::{HidingScheme, MadeScheme, PlainScheme, SchemeField};
+pub use fri_verification::{challenge, verify};

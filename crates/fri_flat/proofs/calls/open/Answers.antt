@@ -1,7 +1,7 @@
 use Rattle.std.proofs.Common.{refl, sym, ◌∙◌}
 use Rattle.p3_fri_relation.specs.Views.{proof_of}
 use Rattle.fri_statement.specs.Setting.{SchemeFields}
-use Rattle.fri_requests.proofs.Fields.{fields_of}
+use Rattle.fri_verification.proofs.Fields.{fields_of}
 use Rattle.fri_flat.proofs.ProofNumbers.{numbers-proof_of}
 use Rattle.fri_flat.proofs.calls.open.Given.{Over}
 use Rattle.fri_flat.proofs.calls.open.Goals as goal

@@ -7,7 +7,7 @@ use Rattle.p3_fri_plain.specs.Views.{proof_listed}
 use Rattle.fri_records.specs.declared.records.BatchClaims.{BatchClaims}
 use Rattle.fri_records.specs.declared.fault.VerifyError.{VerifyError}
 use Rattle.fri_statement.specs.Setting.{SchemeFields}
-use Rattle.fri_requests.proofs.Fields.{fields_of}
+use Rattle.fri_verification.proofs.Fields.{fields_of}
 use Rattle.fri_requests.specs.Accepted.{IsAccepted}
 use Rattle.fri_flat.specs.declared.statement.Statement.{Statement}
 use Rattle.fri_flat.specs.Answers.{VectorProof, numbers_of, IsAcceptedStatement}

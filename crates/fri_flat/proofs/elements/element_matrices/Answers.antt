@@ -2,7 +2,7 @@ use Rattle.std.proofs.Common.{◌≡◌, [], All, length, arith, refl, sym, subs
 use Rattle.std.proofs.lemmas.Grind.{common_steps}
 use Rattle.std.proofs.lemmas.List.{nil_from_length}
 use Rattle.std.proofs.lemmas.List.Elements.{All-map, All-push}
-use Rattle.fri_requests.specs.Elements.{record_of}
+use Rattle.fri_numbers.specs.Elements.{record_of}
 use Rattle.fri_flat.specs.Flat.{word, matrix, IsMatrix}
 use Rattle.fri_flat.proofs.Parts.{entry_read, list_read}
 use Rattle.fri_flat.proofs.elements.element_matrices.Goals as goal

@@ -1,6 +1,6 @@
 use Rattle.std.proofs.Common.{◌≡◌, ◌++◌, vec_len}
 use Rattle.std.specs.List.{All, flat_map}
-use Rattle.fri_requests.specs.Elements.{record_of}
+use Rattle.fri_numbers.specs.Elements.{record_of}
 use Rattle.fri_flat.specs.Flat.{word, matrix, IsMatrix}
 use Rattle.fri_flat.proofs.elements.element_matrices.Given as goal
 

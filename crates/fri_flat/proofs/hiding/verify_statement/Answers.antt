@@ -1,5 +1,5 @@
 use Rattle.fri_statement.specs.Setting.{SchemeFields}
-use Rattle.fri_requests.proofs.Fields.{fields_of}
+use Rattle.fri_verification.proofs.Fields.{fields_of}
 use Rattle.fri_flat.proofs.HidingAccepted.{accepted}
 use Rattle.fri_flat.proofs.hiding.verify_statement.Given.{Over}
 use Rattle.fri_flat.proofs.hiding.verify_statement.Goals as goal

@@ -1,4 +1,4 @@
-use Rattle.fri_requests.specs.Elements.{batch_of}
+use Rattle.fri_numbers.specs.Elements.{batch_of}
 use Rattle.fri_flat.proofs.kept.commit_kept.Goals as goal
 
 -- read as elements

@@ -3,11 +3,11 @@ use Rattle.std.specs.Prelude.{string_bytes}
 use Rattle.std.specs.List.{AllZip}
 use Rattle.p3_fri_relation.specs.Views.{proof_of}
 use Rattle.fri_requests.specs.Accepted.{IsAccepted}
-use Rattle.fri_requests.specs.Claims.{batch_listed}
-use Rattle.fri_requests.specs.Keeping.{AskFor, batches_at}
-use Rattle.fri_requests.specs.Openings.{IsOpened}
+use Rattle.fri_numbers.specs.Claims.{batch_listed}
+use Rattle.fri_prover.specs.Keeping.{AskFor, batches_at}
+use Rattle.fri_requests.specs.Opened.{IsOpened}
 use Rattle.fri_statement.specs.Setting.{SchemeFields}
-use Rattle.fri_requests.proofs.Fields.{fields_of}
+use Rattle.fri_verification.proofs.Fields.{fields_of}
 use Rattle.fri_flat.proofs.ProofNumbers.{numbers-proof_of}
 use Rattle.fri_flat.proofs.kept.open_kept.Given.{Over}
 use Rattle.fri_flat.proofs.kept.open_kept.Goals as goal

@@ -4,10 +4,10 @@ use Rattle.std.proofs.lemmas.Result.{IfOk-weaker, IfErr-weaker}
 use Rattle.p3_fri_relation.specs.Setting as setting
 use Rattle.fri_statement.specs.Setting.{SchemeFields}
 use Rattle.fri_requests.specs.Commitments.{IsCommitmentTo}
-use Rattle.fri_requests.proofs.Failed.{request_weaker}
+use Rattle.fri_numbers.proofs.Failed.{request_weaker}
 use Rattle.fri_requests.proofs.PlainRules.{plain_commitments, none_refused}
-use Rattle.fri_requests.proofs.Fields.{fields_of}
-use Rattle.fri_requests.proofs.Listed.{HaveNumbers}
+use Rattle.fri_verification.proofs.Fields.{fields_of}
+use Rattle.fri_numbers.proofs.Listed.{HaveNumbers}
 use Rattle.fri_requests.proofs.plain.commit.Given.{Over}
 use Rattle.fri_requests.proofs.plain.commit.Goals as goal
 

@@ -7,18 +7,20 @@ use Rattle.p3_fri_openings.specs.SchemeClaims.{relation_claims}
 use Rattle.p3_fri_relation.specs.Setting as setting
 use Rattle.p3_fri_relation.specs.Views.{parameters_of, proof_of}
 use Rattle.fri_statement.specs.Setting.{SchemeFields}
-use Rattle.fri_requests.specs.Bound.{state_bound}
-use Rattle.fri_requests.specs.Claims.{batch_listed}
+use Rattle.fri_verification.specs.Bound.{state_bound}
+use Rattle.fri_numbers.specs.Claims.{batch_listed}
 use Rattle.p3_mmcs.specs.ProverData.{root_over}
 use Rattle.p3_pcs.specs.Claims.{zip_with}
-use Rattle.fri_requests.specs.Openings.{IsOpened, request_for}
-use Rattle.fri_requests.specs.Prepared.{state_asked}
-use Rattle.fri_requests.specs.Requests.{IsRefusedRequest, KeepsBatch, Refuses, points_listed}
-use Rattle.fri_requests.proofs.Failed.{request_weaker}
-use Rattle.fri_requests.proofs.Listed.{HaveNumbers, claims_again}
+use Rattle.fri_requests.specs.Opened.{IsOpened}
+use Rattle.fri_opening.specs.Openings.{request_for}
+use Rattle.fri_opening.specs.Prepared.{state_asked}
+use Rattle.fri_requests.specs.PlainRequests.{IsRefusedRequest, KeepsBatch, Refuses}
+use Rattle.fri_commitments.specs.Requests.{points_listed}
+use Rattle.fri_numbers.proofs.Failed.{request_weaker}
+use Rattle.fri_numbers.proofs.Listed.{HaveNumbers, claims_again}
 use Rattle.fri_requests.proofs.PlainRules.{ArePlain, plain_openings, plain_kept, plain_roots, same_requests, none_refused}
 use Rattle.fri_requests.proofs.Stated.{accepted}
-use Rattle.fri_requests.proofs.Fields.{fields_of}
+use Rattle.fri_verification.proofs.Fields.{fields_of}
 use Rattle.fri_requests.proofs.plain.open.Given.{Over}
 use Rattle.fri_requests.proofs.plain.open.Goals as goal
 

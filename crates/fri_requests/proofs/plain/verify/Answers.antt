@@ -4,11 +4,11 @@ use Rattle.p3_fri_openings.specs.SchemeClaims.{relation_claims}
 use Rattle.p3_fri_relation.specs.Views.{parameters_of, proof_of}
 use Rattle.p3_challenger_sha256.specs.Sha256.{start}
 use Rattle.fri_statement.specs.Setting.{SchemeFields}
-use Rattle.fri_requests.specs.Bound.{state_bound}
-use Rattle.fri_requests.proofs.Failed.{statement_weaker}
-use Rattle.fri_requests.proofs.Listed.{HaveNumbers, claims_again}
+use Rattle.fri_verification.specs.Bound.{state_bound}
+use Rattle.fri_numbers.proofs.Failed.{statement_weaker}
+use Rattle.fri_numbers.proofs.Listed.{HaveNumbers, claims_again}
 use Rattle.fri_requests.proofs.Stated.{accepted, refused}
-use Rattle.fri_requests.proofs.Fields.{fields_of}
+use Rattle.fri_verification.proofs.Fields.{fields_of}
 use Rattle.fri_requests.proofs.plain.verify.Given.{Over}
 use Rattle.fri_requests.proofs.plain.verify.Goals as goal
 

@@ -1,0 +1,4 @@
+pub mod Counts
+pub mod Opened
+pub mod RequestState
+pub mod Swaps

@@ -1,0 +1,4 @@
+pub mod Lent
+pub mod OpenRefusals
+pub mod Openings
+pub mod Prepared

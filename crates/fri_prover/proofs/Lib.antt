@@ -1,0 +1,4 @@
+pub mod MayOpen
+pub mod PlainRefusals
+pub mod ReadKept
+pub mod Reopened

@@ -1,6 +1,0 @@
-use Rattle.std.proofs.Common.{take}
-use Rattle.fri_requests.specs.Preprocessing.{NamesPreprocessed}
-use Rattle.fri_requests.proofs.reading.preprocessing_of.Given as goal
-
-abbrev pub invariant-loop-index : goal.invariant-loop-index
-invariant-loop-index l = NamesPreprocessed l.found (take l.index l.batches)
