@@ -3,4 +3,3 @@ mod Fitting
 mod Fresh
 mod LargerDomains
 mod Maskable
-mod TwoRequests

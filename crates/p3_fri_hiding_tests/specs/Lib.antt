@@ -1,4 +1,3 @@
-pub mod Batches
 pub mod Commits
 pub mod FitLaws
 pub mod Fits

@@ -1,6 +1,5 @@
 //! What tests ask of the hiding scheme, by one function: what names a scheme takes long to prove.
 
-use crate::openings::both::are_both_accepted;
 use crate::openings::cases::{Asked, are_met};
 use crate::openings::headline::is_column_accepted;
 use crate::openings::requests::Batches;
@@ -22,8 +21,6 @@ pub(crate) enum Question {
     Openings(&'static Batches, &'static [Asked]),
     /// Whether a column is accepted.
     IsColumnAccepted,
-    /// Whether preprocessing beside a private column is.
-    AreBothAccepted,
     /// Whether a periodic column has a table, and the columns of a STARK are opened, beside random
     /// polynomials.
     IsStarkServed,
@@ -38,7 +35,6 @@ fn answer_of<P: Tested>(rt: &impl Abort, alloc: Global, question: &Question) -> 
         Question::InTurn(setting, turns) => are_met_in_turn::<P>(rt, alloc, *setting, *turns),
         Question::Openings(batches, openings) => are_met::<P>(rt, alloc, *batches, *openings),
         Question::IsColumnAccepted => is_column_accepted::<P>(rt, alloc),
-        Question::AreBothAccepted => are_both_accepted::<P>(rt, alloc),
         Question::IsStarkServed => is_stark_served::<P>(rt, alloc),
         // no scheme alone answers that
         Question::IsWorkNamed(_) => false,

@@ -49,12 +49,6 @@ pub(crate) static E_COLUMN: Entries = Entries {
     numbers: &E,
 };
 
-pub(crate) static LATE_E_COLUMN: Entries = Entries {
-    shift: 1,
-    width: 1,
-    numbers: &LATE_E,
-};
-
 /// The coset of this shift and of `2^log_size` points, which are few.
 pub(crate) fn coset(rt: &impl Abort, shift: u64, log_size: usize) -> Domain
     ensures size { result.log_size ≡ log_size }

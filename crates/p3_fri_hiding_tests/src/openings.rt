@@ -1,7 +1,6 @@
 //! Openings by any scheme that tests run by: of a private column, of preprocessing beside one, of a
 //! quotient's chunks beside a trace and random polynomials, and of all of them.
 
-pub(crate) mod both;
 pub(crate) mod cases;
 pub(crate) mod changes;
 pub(crate) mod headline;

@@ -26,52 +26,46 @@ pub(crate) enum Change {
     LowDomain,
 }
 
-/// Changes the random values: those of preprocessing where there is to be one more, else those of
-/// the private column.
-pub(crate) fn change_random(random: &mut OpenedValues<BabyBear4>, change: &Change) {
+/// Changes the random values and the claims: the random values of preprocessing where there is to be
+/// one more, else those of the private column. Where memory is refused a second point isn't claimed.
+pub(crate) fn make_change(
+    alloc: Global,
+    change: &Change,
+    random: &mut OpenedValues<BabyBear4>,
+    claims: &mut Vec<CommitmentOpening<BabyBear4, [u8; 32], Domain>>,
+) {
     match change {
-        Change::NoRandomValues => return random.clear(),
-        Change::OneRound => return random.truncate(1),
+        Change::NoRandomValues => random.clear(),
+        Change::OneRound => {
+            random.truncate(1);
+            claims.truncate(1);
+        },
         _ => {},
     }
     let round = match change {
         Change::OneValueMore => random.first_mut(),
         _ => random.last_mut(),
     };
-    let Some(round) = round else {
-        return;
-    };
-    if let Change::NoMatrices = change {
-        return round.clear();
-    }
-    let Some(points) = round.first_mut() else {
-        return;
-    };
-    if let Change::NoPoints = change {
-        return points.clear();
-    }
-    let Some(values) = points.first_mut() else {
-        return;
-    };
-    match change {
-        Change::OneValueLess => {
-            let _ = values.pop();
-        },
-        Change::OneValueMore => {
-            let _pushed = values.push(BabyBear4::ZERO).is_ok();
-        },
-        _ => {},
-    }
-}
-
-/// Changes the claims. Where memory is refused a second point isn't claimed.
-pub(crate) fn change_claims(
-    alloc: Global,
-    claims: &mut Vec<CommitmentOpening<BabyBear4, [u8; 32], Domain>>,
-    change: &Change,
-) {
-    if matches!(change, Change::OneRound) {
-        claims.truncate(1);
+    if let Some(round) = round {
+        if let Some(points) = round.first_mut() {
+            if let Some(values) = points.first_mut() {
+                match change {
+                    Change::OneValueLess => {
+                        let _ = values.pop();
+                    },
+                    Change::OneValueMore => {
+                        let _pushed = values.push(BabyBear4::ZERO).is_ok();
+                    },
+                    _ => {},
+                }
+            }
+            if matches!(change, Change::NoPoints) {
+                points.clear();
+            }
+        }
+        if matches!(change, Change::NoMatrices) {
+            round.clear();
+        }
     }
     if let Some(claim) = claims.last_mut() {
         if let Some(matrix) = claim.matrices.first_mut() {

@@ -1,10 +1,13 @@
 //! The headline at a scheme that hides, and what else a STARK asks of it.
 
 use crate::asked::{Question, hold};
+use crate::kind::Kind;
 use crate::lists::two;
-use crate::matrices::{E_COLUMN, OTHER_POINT, POINT, element, evaluation};
-use crate::openings::cases::are_moved;
+use crate::matrices::{E, E_COLUMN, Entries, OTHER_POINT, PI, POINT, POINTS, element, evaluation};
+use crate::openings::cases::{ACCEPTED, Asked, Call, are_moved};
 use crate::openings::quotient::{AT_ONE, BATCHES};
+use crate::openings::requests::{Batch, Batches};
+use crate::openings::shapes::ANY;
 use crate::scheme::SMALL;
 use crate::tested::Tested;
 use p3_challenger::Sha256Challenger;
@@ -25,11 +28,47 @@ pub(crate) fn is_column_accepted<P: Tested>(rt: &impl Abort, alloc: Global) -> b
     }
 }
 
+/// Preprocessing and a private column, of 32 rows each.
+const BOTH: Batches = Batches {
+    setting: SMALL,
+    is_preprocessed: true,
+    each: &[
+        Batch {
+            kind: Kind::Preprocessed(&[Entries {
+                shift: 1,
+                width: 1,
+                numbers: &PI,
+            }]),
+            domains: &[(1, 6)],
+        },
+        Batch {
+            kind: Kind::Private(&[Entries {
+                shift: 1,
+                width: 1,
+                numbers: &E,
+            }]),
+            domains: &[(1, 6)],
+        },
+    ],
+};
+
+/// Both opened at two points: of the data the private column's alone counts as opened.
+const AT_TWO: Asked = Asked {
+    points: &POINTS,
+    is_opened: &[false, true],
+    values: &[[1, 2, 1], [1, 2, 1]],
+    random: &[[1, 2, 0], [1, 2, 4]],
+    firsts: &[ANY, ANY, ANY, ANY],
+    call: Call::VerifyWithPreprocessing(Some(0)),
+    ..ACCEPTED
+};
+
 /// A column, preprocessing beside a private column, a quotient beside its trace and random
-/// polynomials, and a periodic column with these polynomials beside the columns of a STARK.
+/// polynomials, and a periodic column with these polynomials beside the columns of a STARK, which
+/// are opened and verified by one call that serves preprocessing.
 static QUESTIONS: [Question; 4] = [
     Question::IsColumnAccepted,
-    Question::AreBothAccepted,
+    Question::Openings(&BOTH, &[AT_TWO]),
     Question::Openings(&BATCHES, &[AT_ONE]),
     Question::IsStarkServed,
 ];
