@@ -1,11 +1,11 @@
 -- Which batch of a request is preprocessed, found by going through them, and whether there is a
 -- matrix.
-use Rattle.std.proofs.Common.{◌≡◌, ◌≢◌, ℕ, zero, suc, ◌+◌, ◌<◌, ◌≤◌, List, [], ◌∷◌, ◌++◌, length, take, drop, get_or, ◌==◌}
-use Rattle.std.proofs.Common.{refl, sym, subst, ap, ap₂, ◌∙◌, arith, true, false, Option, Some, None, add-one, drop-cons}
+use Rattle.std.proofs.Common.{◌≡◌, ◌≢◌, ℕ, zero, suc, ◌+◌, ◌<◌, List, [], ◌∷◌, ◌++◌, length, take, drop, get_or, ◌==◌}
+use Rattle.std.proofs.Common.{refl, sym, subst, ap, ◌∙◌, arith, true, false, Option, Some, None, add-one, drop-cons}
 use Rattle.std.specs.List.{flat_map}
 use Rattle.std.specs.Option.{is_some}
 use Rattle.std.proofs.Math.ListN.{take-append-drop}
-use Rattle.std.proofs.lemmas.List.{take_all, take_more, append-nil}
+use Rattle.std.proofs.lemmas.List.{take_more}
 use Rattle.std.proofs.Math.Seq.{length-take-le}
 use Rattle.std.proofs.lemmas.List.Elements.{All-push, All-nil}
 use Rattle.algebra.proofs.Lists.{Each, each_from_All, All_from_each}
@@ -126,18 +126,3 @@ module _ {A B : Type 0} (f : A → List B) where
   some_at (y ∷ ys) zero x l is some none = some (ap f is ∙ front_none (f y) (flat_map f ys) none)
   some_at (y ∷ ys) (suc i) x l is some none =
       some_at ys i x (omega (arith, l)) is some (back_none (f y) (flat_map f ys) none)
-
-  none_push : (x : A) (ys : List A) → flat_map f ys ≡ [] → f x ≡ [] → flat_map f (ys ++ x ∷ []) ≡ []
-  none_push x [] none e = append-nil (f x) ∙ e
-  none_push x (y ∷ ys) none e =
-      ap₂ (λ us vs. us ++ vs) (front_none (f y) (flat_map f ys) none)
-      (none_push x ys (back_none (f y) (flat_map f ys) none) e)
-
-  pub none_more : (xs : List A) (i : ℕ) (x : A) → i < length xs → x ≡ get_or xs i x
-      → flat_map f (take i xs) ≡ [] → f x ≡ [] → flat_map f (take (i + 1) xs) ≡ []
-  none_more xs i x l is none e =
-      ap (λ ys. flat_map f ys) (take_more xs i x l ∙ ap (λ z. take i xs ++ z ∷ []) (sym is))
-      ∙ none_push x (take i xs) none e
-
-  pub none_at_all : (xs : List A) (i : ℕ) → length xs ≤ i → flat_map f (take i xs) ≡ [] → flat_map f xs ≡ []
-  none_at_all xs i l none = sym (ap (λ ys. flat_map f ys) (take_all i xs l)) ∙ none

@@ -120,7 +120,8 @@ fn commit_each<EF: Copy, C, P: UnivariateStarkPcs<EF, C, Commitment = [u8; 32]>>
     Ok(all)
 }
 
-/// Commits to each batch.
+/// Commits to each batch, in order, of matrices with room for their extension. Want of memory is
+/// told from all else that the scheme refuses for.
 pub fn commit_all<F: SchemeField, P: MadeScheme<F, F::Extension, Coset<F>>>(
     alloc: Global,
     scheme: &mut P,
@@ -143,7 +144,7 @@ pub fn commit_all<F: SchemeField, P: MadeScheme<F, F::Extension, Coset<F>>>(
     }
 }
 
-/// Commits to one batch, of matrices with room for their extension.
+/// The same of one batch.
 pub fn commit_one<F: SchemeField, P: MadeScheme<F, F::Extension, Coset<F>>>(
     alloc: Global,
     scheme: &mut P,

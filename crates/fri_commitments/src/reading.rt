@@ -1,6 +1,6 @@
 //! Requests, read whole before anything is committed to.
 
-ghost use Rattle.std.specs.Prelude.{◌≡◌, ◌≢◌, ◌≤◌, ◌↔◌, ℕ, [], All, IsTrue, IfOk, IfErr, map};
+ghost use Rattle.std.specs.Prelude.{◌≡◌, ◌≢◌, ◌≤◌, ◌↔◌, ℕ, [], All, IsTrue, IfOk, IfErr};
 ghost use Rattle.std.specs.Prelude.{Ok, Option, string_bytes};
 ghost use Rattle.std.specs.List.{AllZip, flat_map};
 ghost use Rattle.algebra.specs.Nested.{nested};

@@ -26,7 +26,7 @@ use p3_challenger_sha256::Sha256Challenger;
 use p3_pcs::{KnownCommitment, OpeningRequest, claims_of};
 use std::alloc::{AllocError, Global};
 
-/// Requests to open committed data at these points.
+/// Requests to open committed data at these points, one for each commitment, in order.
 pub fn requests_of<'a, D, Domain, EF: Drop>(
     alloc: Global,
     all: &'a mut [Committed<D, Domain>],

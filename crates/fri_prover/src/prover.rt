@@ -17,7 +17,7 @@ ghost use Rattle.fri_schemes.specs.Rows.{FitsRows};
 ghost use Rattle.fri_requests.specs.Accepted.{IsAccepted};
 ghost use Rattle.fri_numbers.specs.Claims.{batch_listed};
 ghost use Rattle.fri_requests.specs.Commitments.{IsCommitmentTo};
-ghost use Rattle.fri_commitments.specs.Committed.{KeepsRead, Lists, RefusesMatrices};
+ghost use Rattle.fri_commitments.specs.Committed.{Lists};
 ghost use Rattle.fri_numbers.specs.Elements.{batch_of};
 ghost use Rattle.fri_prover.specs.Keeping.{HasCommitted, CommitsBatch, batches_at, CanAsk};
 ghost use Rattle.fri_prover.specs.Keeping.{RefusesAsked};

@@ -1,22 +1,15 @@
 -- What claims state, and what is bound to it.
 use Rattle.std.proofs.Common.{◌≡◌, ℕ, suc, zero, ◌+◌, ◌<◌, ◌≤◌, List, [], ◌∷◌, ◌++◌, map, length, take, drop, get_or, refl}
-use Rattle.std.proofs.Common.{sym, ap, ap₂, ◌∙◌, arith, append_assoc, add-one, drop-cons, Ok}
-use Rattle.std.specs.Result.{result_unwrap_or}
+use Rattle.std.proofs.Common.{sym, ap, ap₂, ◌∙◌, arith, append_assoc, add-one, drop-cons}
 use Rattle.std.proofs.lemmas.List.{append-nil, take_all, length-map}
 use Rattle.algebra.proofs.Lists.{head_eq, tail_eq, map-map}
-use Rattle.hex.specs.Hex.{decode_of}
 use Rattle.p3_mmcs.specs.declared.openings.PointOpening.{PointOpening}
 use Rattle.p3_mmcs.specs.declared.openings.MatrixOpening.{MatrixOpening}
 use Rattle.p3_mmcs.specs.declared.openings.CommitmentOpening.{CommitmentOpening}
 use Rattle.p3_pcs.specs.Claims.{zip_with, point_claim, matrix_claim, claim}
-use Rattle.fri_statement.specs.Setting.{SchemeFields}
 use Rattle.fri_statement.specs.Statement.{OpenedMatrix, OpenedCommitment}
-use Rattle.p3_challenger_sha256.specs.declared.sha256_challenger.Sha256Challenger.{Sha256Challenger}
-use Rattle.fri_records.specs.declared.records.Parameters.{Parameters}
-use Rattle.fri_records.specs.declared.records.BatchClaims.{BatchClaims}
-use Rattle.fri_records.specs.Records.{parameters_in}
-use Rattle.fri_verification.specs.Bound.{bound, state_bound, matrix_claimed, batch_claimed}
-use Rattle.fri_numbers.specs.Claims.{point_by, batch_by, matrix_by, batch_listed}
+use Rattle.fri_verification.specs.Bound.{matrix_claimed, batch_claimed}
+use Rattle.fri_numbers.specs.Claims.{point_by, batch_by, matrix_by}
 
 -- a matrix by its parts
 pub opened_same : (shift log_size w w' : ℕ) (zs zs' : List (List ℕ)) → w ≡ w' → zs ≡ zs'
@@ -56,17 +49,6 @@ module _ {E : Type 0} (numbers_of : E → List ℕ) where
         (take_all i cs l)
         ∙ sym (map-map (λ c. batch_claimed (batch_by numbers_of shift_of log_size_of c)) claim cs)
         ∙ sym (map-map batch_claimed (batch_by numbers_of shift_of log_size_of) (map claim cs))
-
-module _ {F E : Type 0} (f : SchemeFields F E) where
-  -- the state that is bound to what claims state
-  pub state_again : (begun : Sha256Challenger F) (context : List ℕ) (parameters : Parameters)
-      (records : List BatchClaims) (c : Sha256Challenger F) (bytes : List ℕ)
-      (opened : List OpenedCommitment) → c ≡ bound f begun bytes (parameters_in parameters) opened
-      → decode_of context ≡ Ok bytes → opened ≡ map batch_claimed (map batch_listed records)
-      → c ≡ state_bound f begun context parameters records
-  state_again begun context parameters records c bytes opened is decoded same =
-      is ∙ ap₂ (λ bs os. bound f begun bs (parameters_in parameters) os)
-      (sym (ap (λ d. result_unwrap_or d []) decoded)) same
 
 -- entries at one place of lists that are read alike
 pub entries_alike : {A B C : Type 0} (f : A → C) (g : B → C) (xs : List A) (ys : List B) (i : ℕ) (x : A)

@@ -1,7 +1,7 @@
 -- What holds of each element of a list.
-use Rattle.std.proofs.Common.{◌≡◌, ◌≤◌, ◌<◌, ◌+◌, ℕ, List, [], ◌∷◌, ◌++◌, length, take, get_or, map, All}
-use Rattle.std.proofs.Common.{sym, subst, ap, ◌∙◌}
-use Rattle.std.proofs.lemmas.List.{take_more, take_all, map-append}
+use Rattle.std.proofs.Common.{◌≡◌, ◌≤◌, ◌<◌, ◌+◌, ℕ, List, [], ◌∷◌, ◌++◌, length, take, get_or, All}
+use Rattle.std.proofs.Common.{sym, subst}
+use Rattle.std.proofs.lemmas.List.{take_all}
 use Rattle.std.proofs.lemmas.List.Elements.{All-more, All-push, All-cons, All-nil}
 
 module _ {X : Type 0} (P : X → Type 0) where
@@ -18,15 +18,3 @@ module _ {X : Type 0} (P : X → Type 0) where
 
   pub single : (x : X) → P x → All P (x ∷ [])
   single x here = All-cons P x [] here (All-nil P)
-
--- a list that is mapped so far
-module _ {X Y : Type 0} (f : X → Y) (es : List X) where
-  pub one_more_mapped : (i : ℕ) (e : X) (ys all : List Y) → i < length es → e ≡ get_or es i e
-      → all ≡ ys ++ f e ∷ [] → ys ≡ map f (take i es) → all ≡ map f (take (i + 1) es)
-  one_more_mapped i e ys all below is pushed before =
-      pushed ∙ ap (λ xs. xs ++ f e ∷ []) before ∙ ap (λ x. map f (take i es) ++ f x ∷ []) is
-      ∙ sym (ap (λ xs. map f xs) (take_more es i e below)
-      ∙ map-append f (take i es) (get_or es i e ∷ []))
-
-  pub all_mapped : (i : ℕ) (ys : List Y) → length es ≤ i → ys ≡ map f (take i es) → ys ≡ map f es
-  all_mapped i ys end each = each ∙ ap (λ xs. map f xs) (take_all i es end)

@@ -1,6 +1,6 @@
 //! Whether what was committed to may be opened or read.
 
-ghost use Rattle.std.specs.Prelude.{◌≡◌, ◌<◌, ◌≤◌, All, IsTrue, length, slice_index_or};
+ghost use Rattle.std.specs.Prelude.{◌<◌, ◌≤◌, All, IsTrue, length, slice_index_or};
 ghost use Rattle.p3_matrix.specs.Matrix.{matrix_width};
 ghost use Rattle.p3_mmcs.specs.ProverData.{matrices_of};
 ghost use Rattle.p3_fri_hiding_openings.specs.Data.{hidden_columns};

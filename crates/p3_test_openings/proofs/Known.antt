@@ -3,7 +3,6 @@ use Rattle.std.proofs.Common.{◌≡◌, ℕ, List, [], ◌∷◌, map, length, 
 use Rattle.std.specs.List.{AllZip}
 use Rattle.p3_pcs.specs.declared.claims.KnownCommitment.{KnownCommitment}
 use Rattle.p3_pcs.specs.Requests.{Held}
-use Rattle.p3_pcs.specs.Scheme.{Scheme, AreKept}
 use Rattle.p3_stark_columns.proofs.Batches.{domains_fit}
 use Rattle.p3_test_openings.specs.Known.{FitData}
 
@@ -34,25 +33,3 @@ module _ {E Domain Matrix : Type 0} (size : Domain → ℕ)
         commitments = ap (λ c. c ∷ []) (sym commitment);
         sizes = ap (λ ns. ns ∷ []) sizes;
       }
-
--- of two data, the first of which was known before
-pub fit_both : {E C V Dom Com D Proof Error ProverError : Type 0}
-    (old new : Scheme E C V Dom Com D Proof Error ProverError) → AreKept old new
-    → (k l : KnownCommitment Com Dom) (d e : D)
-    (known : List (KnownCommitment Com Dom)) → known ≡ k ∷ l ∷ []
-    → FitData old.committed_polynomials old.commitment_of old.domain_size (k ∷ []) (d ∷ [])
-    → FitData new.committed_polynomials new.commitment_of new.domain_size (l ∷ []) (e ∷ [])
-    → FitData new.committed_polynomials new.commitment_of new.domain_size known (d ∷ e ∷ [])
-fit_both {E = E} {Dom = Dom} {Com = Com} {D = D} old new kept k l d e known are first second =
-    let same = ap (λ (ms : List (Held E)). map (λ m. m.size) ms) (kept.polynomials d) in
-    let before : FitData old.committed_polynomials new.commitment_of new.domain_size (k ∷ []) (d ∷ []) =
-    subst (λ (f : D → Com). FitData old.committed_polynomials f new.domain_size (k ∷ []) (d ∷ []))
-    (sym kept.commitments)
-    (subst (λ (f : Dom → ℕ). FitData old.committed_polynomials old.commitment_of f (k ∷ [])
-    (d ∷ [])) (sym kept.sizes) first) in
-    subst (λ ks. FitData new.committed_polynomials new.commitment_of new.domain_size ks (d ∷ e ∷ []))
-    (sym are)
-    (record {
-      commitments = cc (before.commitments, second.commitments);
-      sizes = cc (before.sizes, second.sizes, same);
-    })

@@ -4,7 +4,7 @@ use crate::commitments::commit_to;
 use crate::lists::push;
 use crate::matrices::{POINT, cosets};
 use crate::openable::are_openable;
-use crate::openings::changes::{Change, make_change};
+use crate::openings::changes::{Change, change_claims, change_random};
 use crate::openings::requests::{Batches, Opening, requests_of};
 use crate::openings::shapes::{ANY, Counts, First, are_opened_so};
 use crate::scheme::{Data, Domain, SMALL, Setting, VerifierError};
@@ -100,7 +100,8 @@ fn is_answered<P: Tested>(
     }
     let random = P::random_values(&mut proof);
     let has_random_values = are_opened_so(&*random, asked.random, &[]);
-    make_change(alloc, &asked.change, random, &mut claims);
+    change_random(random, &asked.change);
+    change_claims(alloc, &mut claims, &asked.change);
     let scheme = P::of(setting);
     let answer = match asked.call {
         Call::Verify => scheme.verify(alloc, claims, &proof, verifier),

@@ -26,20 +26,12 @@ pub(crate) enum Change {
     LowDomain,
 }
 
-/// Changes the random values and the claims: the random values of preprocessing where there is to be
-/// one more, else those of the private column. Where memory is refused a second point isn't claimed.
-pub(crate) fn make_change(
-    alloc: Global,
-    change: &Change,
-    random: &mut OpenedValues<BabyBear4>,
-    claims: &mut Vec<CommitmentOpening<BabyBear4, [u8; 32], Domain>>,
-) {
+/// Changes the random values: those of preprocessing where there is to be one more, else those of
+/// the private column.
+pub(crate) fn change_random(random: &mut OpenedValues<BabyBear4>, change: &Change) {
     match change {
         Change::NoRandomValues => random.clear(),
-        Change::OneRound => {
-            random.truncate(1);
-            claims.truncate(1);
-        },
+        Change::OneRound => random.truncate(1),
         _ => {},
     }
     let round = match change {
@@ -47,7 +39,13 @@ pub(crate) fn make_change(
         _ => random.last_mut(),
     };
     if let Some(round) = round {
+        if matches!(change, Change::NoMatrices) {
+            round.clear();
+        }
         if let Some(points) = round.first_mut() {
+            if matches!(change, Change::NoPoints) {
+                points.clear();
+            }
             if let Some(values) = points.first_mut() {
                 match change {
                     Change::OneValueLess => {
@@ -59,13 +57,18 @@ pub(crate) fn make_change(
                     _ => {},
                 }
             }
-            if matches!(change, Change::NoPoints) {
-                points.clear();
-            }
         }
-        if matches!(change, Change::NoMatrices) {
-            round.clear();
-        }
+    }
+}
+
+/// Changes the claims. Where memory is refused a second point isn't claimed.
+pub(crate) fn change_claims(
+    alloc: Global,
+    claims: &mut Vec<CommitmentOpening<BabyBear4, [u8; 32], Domain>>,
+    change: &Change,
+) {
+    if matches!(change, Change::OneRound) {
+        claims.truncate(1);
     }
     if let Some(claim) = claims.last_mut() {
         if let Some(matrix) = claim.matrices.first_mut() {
